@@ -1,0 +1,10 @@
+pub mod Lists
+pub mod Comparing
+pub mod Searching
+pub mod Parts
+pub mod Rows
+pub mod Sequences
+pub mod Walking
+pub mod Decoding
+pub mod Boundaries
+pub mod Prefixes
