@@ -1,0 +1,4 @@
+pub mod Targets
+pub mod Operands
+pub mod Lengths
+pub mod ReadBack

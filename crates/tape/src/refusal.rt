@@ -1,0 +1,70 @@
+// Refusals by name, with document 01's number and figure for each.
+ghost use mathlib.Core.Path.{_≡_};
+ghost use Rattle.tape.specs.Refusals.{faultNumber, numberOf, figureOf};
+
+// What can be wrong at a command of a tape.
+pub enum Fault {
+    Grammar,
+    Outside,
+    Cuts,
+    EmptyName,
+    Depth,
+    Ampersand,
+    Position,
+}
+
+// Why an entry turned its input away: with a place in the text or on the tape, or with the bytes it would write.
+pub enum Refusal {
+    TooLong,
+    NotUtf8(usize),
+    Tape(Fault, usize),
+    PragmaByte(usize),
+    Bindings,
+    Space(usize),
+    NoticeSpace(usize),
+    Forged,
+}
+
+pub fn fault_number(f: Fault) -> u8
+    ensures { λ r. ⌜ r ≡ faultNumber f ⌝ }
+{
+    match f {
+        Fault::Grammar => 3,
+        Fault::Outside => 4,
+        Fault::Cuts => 4,
+        Fault::EmptyName => 4,
+        Fault::Depth => 6,
+        Fault::Ampersand => 7,
+        Fault::Position => 8,
+    }
+}
+
+pub fn number(r: Refusal) -> u8
+    ensures { λ n. ⌜ n ≡ numberOf r ⌝ }
+{
+    match r {
+        Refusal::TooLong => 1,
+        Refusal::NotUtf8(_) => 2,
+        Refusal::Tape(f, _) => fault_number(f),
+        Refusal::PragmaByte(_) => 5,
+        Refusal::Bindings => 9,
+        Refusal::Space(_) => 10,
+        Refusal::NoticeSpace(_) => 11,
+        Refusal::Forged => 12,
+    }
+}
+
+pub fn figure(r: Refusal) -> usize
+    ensures { λ n. ⌜ n ≡ figureOf r ⌝ }
+{
+    match r {
+        Refusal::TooLong => 65535,
+        Refusal::NotUtf8(p) => p,
+        Refusal::Tape(_, p) => p,
+        Refusal::PragmaByte(p) => p,
+        Refusal::Bindings => 8,
+        Refusal::Space(n) => n,
+        Refusal::NoticeSpace(n) => n,
+        Refusal::Forged => 0,
+    }
+}
