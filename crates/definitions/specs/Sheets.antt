@@ -1,0 +1,166 @@
+-- Document 01, "Sheets to try": the proved set, one table closed by one claim that is computed from the definitions.
+use Prim.Native.Nat.{ℕ, _+_, _*_, _-_}
+use Prim.Native.String.{String}
+use mathlib.Core.Path.{_≡_, refl}
+use mathlib.Core.Bool.{cond}
+use mathlib.Core.List.{List, [], _∷_, map}
+use lib.ListN.{length}
+use lib.Dec.{leb}
+use Rattle.text.specs.declared.spans.Span.{Span}
+use Rattle.text.specs.Bytes.{ascii, same, findFrom}
+use Rattle.text.specs.Utf8.{within, width, after, illFrom, firstIll}
+use Rattle.text.specs.Chars.{charOf, isWhiteSpace, isLineTerminator}
+use Rattle.text.specs.Spans.{partOf, cutsAt, boundsOf}
+use Rattle.tape.specs.Refusals.{faultNumber, numberOf, figureOf}
+use Rattle.tape.specs.Opening.{flagsCommand, optionCommand}
+use Rattle.tape.specs.Root.{heritageCommand, scopeCommand, nameCommand, memberCommand, attributeCommand, propertyCommand, valueCommand, childCommand}
+use Rattle.definitions.specs.declared.options.Optional.{Optional}
+use Rattle.definitions.specs.declared.options.Optional.the-variants.{Absent, Present}
+use Rattle.definitions.specs.declared.options.PragmaRoot.the-variants as root
+use Rattle.definitions.specs.declared.options.Settings.{Settings}
+use Rattle.definitions.specs.declared.options.Form.{Form}
+use Rattle.definitions.specs.Judging.{_then_, from, spanned, named, worse, Judged, accepted, refused, refuse, refuseAt, read}
+use Rattle.definitions.specs.Judging as judging
+use Rattle.definitions.specs.Options.{flagsOf, conform}
+use Rattle.definitions.specs.Comments.{orElse, keywordOf, counts, onKeyword, onWord, onSign, seek, applied, onValue, onSearch, commentFrom, withComment, withComments}
+use Rattle.definitions.specs.Pragmas.{onto, split, allParts, isIdentifierName, isOneOf, isReservedWord, allNames, metaForm, formOfParts, formOf, formIn}
+use Rattle.definitions.specs.Opening.{optionBy, optionsFrom, openingBy, readOpening, optionsOf, modeOf, formUnder, settingsOf, shifted, overAsciiIn, ifClassic, pragmasChecked, judgeOpening}
+use Rattle.definitions.specs.Reading.{ampersand, lettered, opened, membersBy, nameBy, propertiesBy, attributesBy, valueBy, childrenBy, membersAt, nameAt, propertiesAt, elementAt, fragmentAt, attributesAt, valueAt, childrenAt, scopesBy, scopesAt, rootBy, whole, readRoot}
+use Rattle.definitions.specs.JsxText.{charsFrom, linesOf, trimFront, beforeTrimmed, trimBack, laterLines, endOf, spansOf, keptLines, jsxText}
+use Rattle.definitions.specs.Calls.{bareCode, byteCode, expressionCode, spanCode, bytesOf, callBytes, noticeBytesOf, noticeBytes}
+use Rattle.definitions.specs.Store.{sameImport, numberIn, bound, boundBy, boundAfter, numbered, numberedAll, canImport, canRequire, canBind}
+use Rattle.definitions.specs.Lowering.{joined, members, lowerName, imported, hasValue, isProto, hasProto, carried, isFound, attributeName, keyNotice, keyAfterSpread, someLine, survivors, hasSpread, childrenProperty, lowerText, sourceOutput, selfOutput, staticChildren, noKey, isClassic, automaticName, automaticCall, objectOf, classicCall, isLast, loneSpreadOr, lowerNode, lowerAttributes, lowerKey, lowerValue, lowerChildren, insideConstructor, lowerRoot, commandsOf, noticesOf}
+use Rattle.definitions.specs.Records.{without, isAmong, withGroup, groupedBy, groupsFrom, entryIn, entriesIn, groupTape, placeIn, fileNameEntry, fileNameTape, recordTape}
+use Rattle.definitions.specs.States.{inOrder, borneOut, rootNumber, numberedFrom, unrepeated, allBindable, sound}
+use Rattle.definitions.specs.Entries.{loweredAfter, fitted, judgeRoot, recordsFrom, moved, judgeRecords}
+use Rattle.definitions.specs.Program.{Printed, printed, refusedWith, printRecords, printRoot, printOpening, jsxtape}
+
+-- ---- how rows are written
+
+unfoldable pub digit : ℕ → ℕ
+digit c = cond (leb 0x61 c) (c - 0x57) (c - 0x30)
+
+-- bytes of two digits each, one space between them
+unfoldable pub hexOf : List ℕ → List ℕ
+hexOf [] = []
+hexOf (a ∷ []) = []
+hexOf (a ∷ b ∷ []) = (digit a * 16 + digit b) ∷ []
+hexOf (a ∷ b ∷ c ∷ l) = (digit a * 16 + digit b) ∷ hexOf l
+
+abbrev pub hex : String → List ℕ
+hex s = hexOf (ascii s)
+
+abbrev pub at : ℕ → ℕ → Span
+at s n = record { start = s; len = n }
+
+-- what is asked: the lines of a JSX text, the pragma pair that a comment sets with jsx_plugin on, the form of a pragma, what a job prints
+pub data Question : Type 0 where
+  linesIn : List ℕ → Question
+  pairIn : List ℕ → Question
+  formIs : List ℕ → Question
+  prints : List ℕ → List ℕ → List ℕ → Question
+
+pub data Reply : Type 0 where
+  spans : List Span → Reply
+  pair : Optional → Optional → Reply
+  form : Form → Reply
+  output : Printed → Reply
+  turnedAway : Reply
+
+-- an opening with jsx_plugin and one comment, the whole text
+abbrev pub commented : List ℕ → List ℕ
+commented c = 0x61 ∷ 0x01 ∷ 0x00 ∷ 0x60 ∷ 0 ∷ 0 ∷ length c ∷ 0 ∷ []
+
+unfoldable pub pairOf : Judged Settings → Reply
+pairOf (accepted s) = pair (s .options .pragma) (s .options .«pragma_frag»)
+pairOf (refused r) = turnedAway
+
+unfoldable pub replyTo : Question → Reply
+replyTo (linesIn l) = spans (jsxText l (at 0 (length l)))
+replyTo (pairIn c) = pairOf (judgeOpening c (commented c))
+replyTo (formIs l) = form (formOf l)
+replyTo (prints job text tape) = output (jsxtape job text tape)
+
+pub record Row : Type 0 where
+  pub asked : Question
+  pub expected : Reply
+
+infix 5 _gives_
+abbrev pub _gives_ : Question → Reply → Row
+q gives r = record { asked = q; expected = r }
+
+-- ---- the table
+
+-- a root of heritage 0 in a function, then an element at line 0, column 0
+-- (rows write it out: 01 00 02 03 10, eight zero bytes)
+
+abbrev pub table : List Row
+table =
+    -- "Text of 3 spaces: kept."
+    (linesIn (ascii "   ") gives spans (at 0 3 ∷ []))
+    -- "LF: no child."
+    ∷ (linesIn (ascii "\n") gives spans [])
+    -- "\" a LF b \" with single spaces gives \" a b \"": " a" and "b ". Wrong port: trimming the first line's front
+    ∷ (linesIn (ascii " a \n b ") gives spans (at 0 2 ∷ at 5 2 ∷ []))
+    -- "comment `a@@jsx h`: pragma h"
+    ∷ (pairIn (ascii "a@@jsx h") gives pair (Present (at 7 1)) Absent)
+    -- "`@jsx `, LF, `@jsxFrag f`: neither set"
+    ∷ (pairIn (ascii "@jsx \n@jsxFrag f") gives pair Absent Absent)
+    -- "`h.class` valid; `import` and `a..b` invalid; `this` valid"
+    ∷ (formIs (ascii "h.class") gives form (record { root = root.Identifier; tail = 1 }))
+    ∷ (formIs (ascii "import") gives form (record { root = root.Default; tail = 0 }))
+    ∷ (formIs (ascii "a..b") gives form (record { root = root.Default; tail = 0 }))
+    ∷ (formIs (ascii "this") gives form (record { root = root.This; tail = 0 }))
+    -- "Automatic, not development, sole spread child: array, callee jsx." Wrong port: jsxs for a sole spread
+    ∷ (prints (hex "61 81 00") (ascii "a") (hex "01 00 02 03 10 00 00 00 00 00 00 00 00 20 00 00 01 00 1e 51 05 00 1f")
+    gives output (printed
+    (hex "80 01 81 9a 9c 05 00 9b 01 82 9e 8a 8b 00 00 01 00 8d 9f 96 00 a0 01")
+    []
+    (hex "b0 01 b1 02 00")))
+    -- "Valueless key: notice and key: true."
+    ∷ (prints (hex "61 81 00") (ascii "akey") (hex "01 00 02 03 10 00 00 00 00 00 00 00 00 20 00 00 01 00 30 01 00 03 00 40 1e 1f")
+    gives output (printed
+    (hex "80 01 81 83 01 00 03 00 90 82 9e 8a 8b 00 00 01 00 8d 9f 96 00 a0 01")
+    (hex "c0 01 00 03 00")
+    (hex "b0 01 b1 02 00")))
+    -- "Classic, two spreads of `{}`, self and source plugins off: null."
+    ∷ (prints (hex "61 09 00") (ascii "a") (hex "01 00 02 03 10 00 00 00 00 00 00 00 00 20 00 00 01 00 33 05 00 35 33 06 00 35 1e 1f")
+    gives output (printed (hex "80 00 88 9e 8a 8b 00 00 01 00 8d 9f 98 00 a0 01") [] []))
+    -- "Classic lone spread of `{}`, self and source plugins off: 89 and its E."
+    ∷ (prints (hex "61 09 00") (ascii "a") (hex "01 00 02 03 10 00 00 00 00 00 00 00 00 20 00 00 01 00 33 05 00 35 1e 1f")
+    gives output (printed (hex "80 00 89 05 00 9e 8a 8b 00 00 01 00 8d 9f 98 00 a0 01") [] []))
+    -- the whole example: job `61 e1 00`
+    ∷ (prints (hex "61 e1 00") (ascii "a") (hex "01 00 02 03 10 00 00 00 00 00 00 00 00 20 00 00 01 00 1e 1f")
+    gives output (printed (hex "80 01 81 82 9e 8a 8b 00 00 01 00 8d 9f 96 00 a0 01") [] (hex "b0 01 b1 02 00")))
+    -- Wrong port: import before children. The fragment inside makes bindings 0 and 1, the element around it mentions 1
+    ∷ (prints (hex "61 81 00") (ascii "a")
+    (hex "01 00 02 03 10 00 00 00 00 00 00 00 00 20 00 00 01 00 1e 11 00 00 00 00 00 00 00 00 1f 51 05 00 1f")
+    gives output (printed
+    (hex "80 01 81 9a 80 01 81 82 9e 96 00 9f 96 01 a0 01 9c 05 00 9b 01 82 9e 8a 8b 00 00 01 00 8d 9f 96 02 a0 01")
+    []
+    (hex "b0 01 b1 00 00 b1 02 01 b1 03 02")))
+    -- Wrong port: lone spread decided by whether self was allowed. Here it is not (a constructor of a derived class), but its plugin is on
+    ∷ (prints (hex "61 0b 00") (ascii "a") (hex "01 02 02 02 10 00 00 00 00 00 00 00 00 20 00 00 01 00 32 05 00 1e 1f")
+    gives output (printed (hex "80 00 81 86 05 00 82 9e 8a 8b 00 00 01 00 8d 9f 98 00 a0 01") [] []))
+    ∷ []
+
+pub proved-set : map (λ r. replyTo (r .asked)) table ≡ map (λ r. r .expected) table
+unfolding replyTo pairOf digit hexOf
+    same findFrom within width after illFrom firstIll charOf isWhiteSpace isLineTerminator partOf cutsAt boundsOf
+    faultNumber numberOf figureOf flagsCommand optionCommand
+    heritageCommand scopeCommand nameCommand memberCommand attributeCommand propertyCommand valueCommand childCommand
+    _then_ judging.map from spanned named worse refuse refuseAt read
+    flagsOf conform
+    orElse keywordOf counts onKeyword onWord onSign seek applied onValue onSearch commentFrom withComment withComments
+    onto split allParts isIdentifierName isOneOf isReservedWord allNames metaForm formOfParts formOf formIn
+    optionBy optionsFrom openingBy readOpening optionsOf modeOf formUnder settingsOf shifted overAsciiIn ifClassic pragmasChecked judgeOpening
+    ampersand lettered opened membersBy nameBy propertiesBy attributesBy valueBy childrenBy membersAt nameAt propertiesAt elementAt fragmentAt attributesAt valueAt childrenAt scopesBy scopesAt rootBy whole readRoot
+    charsFrom linesOf trimFront beforeTrimmed trimBack laterLines endOf spansOf keptLines jsxText
+    bareCode byteCode expressionCode spanCode bytesOf callBytes noticeBytesOf noticeBytes
+    sameImport numberIn bound boundBy boundAfter numbered numberedAll canImport canRequire canBind
+    joined members lowerName imported hasValue isProto hasProto carried isFound attributeName keyNotice keyAfterSpread someLine survivors hasSpread childrenProperty lowerText sourceOutput selfOutput staticChildren noKey isClassic automaticName automaticCall objectOf classicCall isLast loneSpreadOr lowerNode lowerAttributes lowerKey lowerValue lowerChildren insideConstructor lowerRoot commandsOf noticesOf
+    without isAmong withGroup groupedBy groupsFrom entryIn entriesIn groupTape placeIn fileNameEntry fileNameTape recordTape
+    inOrder borneOut rootNumber numberedFrom unrepeated allBindable sound
+    loweredAfter fitted judgeRoot recordsFrom moved judgeRecords
+    printRecords printRoot printOpening jsxtape
+proved-set = refl
