@@ -3,29 +3,27 @@
 --     _with_, pick, plain-fits  parts and choices of what fits fit; plain output fits
 --     root-fits                 the output of a root fits
 -- Assumes nothing.
-use mathlib.Core.Path.{_≡_, refl, sym, ap, _∙_}
-use mathlib.Core.Bool.{Bool, true, false, cond, not, _&&_, _||_}
+use mathlib.Core.Path.{_≡_, refl}
+use mathlib.Core.Bool.{Bool, true, false, cond, not, _&&_}
 use mathlib.Core.List.{List, [], _∷_, _++_}
-use Prim.Native.Nat.{ℕ, suc, _+_}
+use Prim.Native.Nat.{ℕ, _+_}
 use lib.Dec.{eqb, ltb, leb}
 use borrow.Author.Tests.{eq-eqb}
-use Rattle.tape.specs.declared.root.Place.{Place}
+use Rattle.commands.specs.declared.root.Place.{Place}
 use Rattle.definitions.specs.declared.options.Mode.{Mode}
 use Rattle.definitions.specs.declared.options.Mode.the-variants.{Module, Script, Classic}
 use Rattle.definitions.specs.declared.options.Settings.{Settings}
-use Rattle.definitions.specs.declared.records.Import.{Import}
 use Rattle.definitions.specs.declared.records.Import.the-variants.{FileName}
 use Rattle.definitions.specs.Tree.{Node, element, fragment, Attributes, noAttributes, attribute, namespacedAttribute, spread, literal, Value, absent, string, expression, empty, nodeValue, Children, noChildren, textChild, expressionChild, emptyChild, spreadChild, nodeChild, Root}
 use Rattle.definitions.specs.JsxText.{jsxText}
-use Rattle.definitions.specs.Calls.{Bare, bare, source}
+use Rattle.definitions.specs.Calls.{Bare, source}
 use Rattle.definitions.specs.Calls as call
 use Rattle.definitions.specs.Store.{fragmentName, createElement, jsx, jsxs, jsxDev, sourceOf, canName, canImport, canRequire, canBind}
 use Rattle.definitions.specs.States.{allBindable}
-use Rattle.definitions.specs.Lowering.{Context, Output, emit, put, putByte, putOver, quoted, piece, colonized, lowerName, imported, fragmentTag, isKey, hasValue, hasProto, lowerLiteral, attributeName, keyNotice, survivors, hasSpread, formOf, childrenProperty, lowerText, sourceOutput, selfOutput, development, staticChildren, noKey, isClassic, pureByte, closing, automaticName, automaticCall, objectOf, classicCall, pluginsOff, isLast, loneSpreadOr, classicElement, lowerNode, lowerAttributes, lowerKey, lowerValue, lowerChildren, canAddSelf, lowerRoot, commandsOf}
-use Rattle.definitions.proofs.Counting.{both}
+use Rattle.definitions.specs.Lowering.{Context, Output, emit, put, imported, fragmentTag, isKey, hasValue, hasProto, survivors, hasSpread, formOf, childrenProperty, sourceOutput, selfOutput, development, isClassic, pureByte, closing, automaticName, automaticCall, objectOf, classicCall, pluginsOff, isLast, loneSpreadOr, classicElement, lowerNode, lowerAttributes, lowerKey, lowerValue, lowerChildren, canAddSelf, lowerRoot, commandsOf}
 use Rattle.definitions.proofs.Numbering.{importsOf, imports-append}
 use Rattle.definitions.proofs.Soundness.{bindable-append}
-use Rattle.definitions.proofs.Plain.{Plain, none, plain-put, plain-byte, plain-over, commands-append, plain-imports, plain-colonized, plain-name, plain-literal, plain-attribute, plain-notice, plain-string, plain-text, plain-self, plain-static, plain-no-key}
+use Rattle.definitions.proofs.Plain.{Plain, none, plain-byte, plain-over, commands-append, plain-imports, plain-colonized, plain-name, plain-literal, plain-attribute, plain-notice, plain-string, plain-text, plain-self, plain-static, plain-no-key}
 
 pub record Fits (c : Context) (os : List Output) : Type 0 where
   pub so : allBindable (c .settings) (importsOf (commandsOf os)) ≡ true

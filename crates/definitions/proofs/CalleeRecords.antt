@@ -4,19 +4,18 @@
 -- Assumes nothing.
 use mathlib.Core.Path.{_≡_, refl, sym, ap, subst, _∙_}
 use mathlib.Core.Bool.{Bool, true, false, cond}
-use mathlib.Core.List.{List, [], _∷_, _++_, map}
-use Prim.Native.Nat.{ℕ, suc, _+_, _≤_, _<_}
+use mathlib.Core.List.{List, [], _∷_, map}
+use Prim.Native.Nat.{ℕ, suc, _≤_, _<_}
 use native.Mathlib.Nat.{zero-add}
 use native.Mathlib.Omega.{arith}
 use lib.ListN.{length}
-use lib.Dec.{eqb}
 use borrow.Author.Tests.{eq-eqb}
 use Rattle.definitions.specs.declared.records.Import.{Import}
 use Rattle.definitions.specs.declared.records.Import.the-variants.{Named, Default, FileName}
 use Rattle.definitions.specs.Calls.{Command, bare, byte, over, span, binding, source}
 use Rattle.definitions.specs.Store.{numberIn, numbered}
 use Rattle.definitions.specs.Records.{Entry, named, required, file}
-use Rattle.definitions.specs.Callees.{Callee, calleeBy, nameBehind, calleeBehind, isCallee, calleesRead}
+use Rattle.definitions.specs.Callees.{Callee, calleeBy, nameBehind, calleeBehind, calleesRead}
 use Rattle.definitions.specs.Claim.{count, isOf, says}
 use Rattle.definitions.proofs.Counting.{never, count-le}
 use Rattle.definitions.proofs.Numbering.{importsOf, AllBound}

@@ -6,15 +6,15 @@
 -- Assumes nothing.
 use mathlib.Core.Path.{_≡_, refl, sym, ap, subst, _∙_}
 use mathlib.Core.Bool.{Bool, true, false, cond, not, _&&_, _||_}
-use mathlib.Core.List.{List, [], _∷_, _++_, map, map-append, append-nil, append-assoc}
-use Prim.Native.Nat.{ℕ, zero, suc, _+_}
+use mathlib.Core.List.{List, [], _∷_, _++_, map, map-append, append-nil}
+use Prim.Native.Nat.{ℕ}
 use native.Mathlib.Omega.{arith}
 use lib.Dec.{eqb, leb}
 use borrow.Author.Tests.{eqb-true}
 use Rattle.text.specs.declared.spans.Span.{Span}
 use Rattle.text.specs.Bytes.{ascii, same}
 use Rattle.text.specs.Spans.{partOf}
-use Rattle.tape.specs.declared.root.Place.{Place}
+use Rattle.commands.specs.declared.root.Place.{Place}
 use Rattle.definitions.specs.declared.options.Settings.{Settings}
 use Rattle.definitions.specs.declared.records.Import.{Import}
 use Rattle.definitions.specs.Tree.{Name, Node, element, fragment, Attributes, noAttributes, attribute, namespacedAttribute, spread, literal, Value, absent, string, expression, empty, nodeValue, Children, noChildren, textChild, expressionChild, emptyChild, spreadChild, nodeChild, Root}
@@ -22,12 +22,12 @@ use Rattle.definitions.specs.JsxText.{jsxText}
 use Rattle.definitions.specs.Calls.{Command, bareCode}
 use Rattle.definitions.specs.Calls as call
 use Rattle.definitions.specs.Store.{fragmentName, createElement, jsx, jsxs, jsxDev}
-use Rattle.definitions.specs.Lowering.{Context, Output, put, putByte, isKey, hasValue, hasProto, keyNotice, attributeName, keyAfterSpread, someLine, survivors, hasSpread, formOf, childrenProperty, sourceOutput, selfOutput, development, noKey, isClassic, automaticName, automaticCall, objectOf, classicCall, pluginsOff, isLast, loneSpreadOr, lowerNode, lowerAttributes, lowerKey, lowerValue, lowerChildren, lowerName, canAddSelf, lowerRoot, commandsOf}
-use Rattle.definitions.specs.Callees.{Mark, keyMark, spreadMark, otherMark, marksOf, anyKey, keyFollowsSpread, surviving, calleeOfNode, given, laterValuedKey, calleesIn, calleesInValues, calleesInKey, calleesInValue, calleesInChildren, calleesOfRoots, Callee, calleeNamed}
+use Rattle.definitions.specs.Lowering.{Context, Output, put, putByte, isKey, hasValue, keyNotice, attributeName, keyAfterSpread, survivors, hasSpread, formOf, childrenProperty, sourceOutput, selfOutput, development, noKey, isClassic, automaticName, automaticCall, objectOf, classicCall, isLast, loneSpreadOr, lowerNode, lowerAttributes, lowerKey, lowerValue, lowerChildren, lowerName, canAddSelf, lowerRoot, commandsOf}
+use Rattle.definitions.specs.Callees.{keyMark, otherMark, marksOf, anyKey, keyFollowsSpread, surviving, calleeOfNode, given, laterValuedKey, calleesIn, calleesInValues, calleesInKey, calleesInValue, calleesInChildren, calleesOfRoots, Callee, calleeNamed}
 use Rattle.definitions.proofs.Counting.{never}
-use Rattle.definitions.proofs.Plain.{Plain, none, plain-put, plain-byte, plain-over, commands-append, plain-colonized, plain-name, plain-literal, plain-attribute, plain-notice, plain-string, plain-text, plain-self, plain-static, plain-no-key, _and_}
+use Rattle.definitions.proofs.Plain.{none, plain-put, plain-byte, plain-over, plain-colonized, plain-name, plain-literal, plain-attribute, plain-notice, plain-string, plain-text, plain-self, plain-static, plain-no-key, _and_}
 use Rattle.definitions.proofs.Survival.{survivors-surviving}
-use Rattle.definitions.proofs.SymbolicCallees.{calleesOf, Reads, _joined_, _still_, _onward_, quiet-onward, choose, plain-reads, source-reads, tag-reads, closing-reads}
+use Rattle.definitions.proofs.SymbolicCallees.{calleesOf, Reads, _joined_, _still_, _onward_, quiet-onward, plain-reads, source-reads, tag-reads, closing-reads}
 
 module _ (c : Context) where
   -- ---- a key behind a spread

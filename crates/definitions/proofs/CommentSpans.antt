@@ -5,34 +5,31 @@
 --     pragma-behind, value-begins, value-ends     where a pragma's value stands in its comment
 --     Borne, comments-borne                 comments keep the options' spans borne out
 -- Assumes nothing.
-use mathlib.Core.Path.{_≡_, refl, sym, ap, subst, _∙_}
+use mathlib.Core.Path.{_≡_, refl, sym, ap, _∙_}
 use mathlib.Core.Bool.{Bool, true, false, cond, not, _&&_, _||_}
 use mathlib.Core.List.{List, [], _∷_}
 use Prim.Native.Nat.{ℕ, zero, suc, _+_, _-_, _≤_, _<_}
-use native.Mathlib.Numerals.{add-one}
-use native.Mathlib.Nat.{add-zero, add-assoc}
 use native.Mathlib.Omega.{arith}
 use lib.ListN.{length, take, drop, getD, length-take, length-drop}
-use lib.Seq.{getD-take, getD-drop, drop-length, take-length, length-take-le, drop-cons}
+use lib.Seq.{getD-take, getD-drop, take-length, length-take-le, drop-cons}
 use lib.Dec.{eqb, leb, ltb}
-use borrow.Author.Tests.{eqb-true, eqb-false, ltb-true, ltb-false, le-ltb, leb-true, lt-leb, not-true, not-false}
+use borrow.Author.Tests.{eqb-true, eqb-false, ltb-false, le-ltb, leb-true, lt-leb, not-false}
 use Rattle.text.specs.declared.bytes.Found.{Found}
 use Rattle.text.specs.declared.bytes.Found.the-variants as found
 use Rattle.text.specs.declared.spans.Span.{Span}
-use Rattle.text.specs.declared.spans.Bounds.{Bounds}
 use Rattle.text.specs.declared.spans.Bounds.the-variants as bounds
 use Rattle.text.specs.Bytes.{findFrom}
 use Rattle.text.specs.Utf8.{firstIll, width}
-use Rattle.text.specs.Spans.{partOf, continues, cutsAt, boundsOf, isBoundary}
+use Rattle.text.specs.Spans.{partOf, cutsAt, boundsOf, isBoundary}
 use Rattle.text.proofs.Searching.{Hit, find-at, find-found}
 use Rattle.text.proofs.Rows.{by-row}
 use Rattle.text.proofs.Boundaries.{cuts-boundary, boundary-next}
 use Rattle.definitions.specs.declared.options.Optional.{Optional}
-use Rattle.definitions.specs.declared.options.Optional.the-variants.{Absent, Present}
+use Rattle.definitions.specs.declared.options.Optional.the-variants.{Present}
 use Rattle.definitions.specs.declared.options.Options.{Options}
 use Rattle.definitions.specs.Comments.{isBlank, isWhite, isAt, placeFrom, orElse, Keyword, jsx, frag, importSource, runtime, unknown, keywordOf, Search, pragma, nothing, counts, onKeyword, onWord, onSign, seek, valueStart, valueOf, setsPair, applied, onValue, onSearch, commentFrom, withComment, withComments}
 use Rattle.definitions.specs.States.{inOrder, borneOut, spansBorneOut}
-use Rattle.definitions.proofs.Counting.{never, both, either-false}
+use Rattle.definitions.proofs.Counting.{never, both}
 
 -- ---- spans in order
 

@@ -1,13 +1,13 @@
 -- Counting the elements of a list that pass a test, and tests joined by `&&` and `||`.
---     both, either-false         what a conjunction's truth and a disjunction's falsehood say of the parts
 --     never                      false is not true
---     count-append, count-map    counts of a list's parts and of a list's images
---     count-same, count-le       tests that agree on a list, or of which one implies the other
+--     both, either-false         what a conjunction's truth and a disjunction's falsehood say of the parts
+--     count-nil, count-append    counts of a list's parts
+--     count-le                   where one test implies another, no more pass it
 -- Assumes nothing.
-use mathlib.Core.Path.{_≡_, refl, sym, ap, _∙_}
+use mathlib.Core.Path.{_≡_, refl, sym, _∙_}
 use mathlib.Core.Bool.{Bool, true, false, cond, _&&_, _||_}
-use mathlib.Core.List.{List, [], _∷_, _++_, map}
-use Prim.Native.Nat.{ℕ, suc, _+_, _≤_, _<_}
+use mathlib.Core.List.{List, [], _∷_, _++_}
+use Prim.Native.Nat.{ℕ, suc, _+_, _≤_}
 use native.Mathlib.Omega.{arith}
 use Rattle.definitions.specs.Claim.{count}
 
@@ -41,7 +41,6 @@ module _ {A : Type 0} where
       go true h = omega arith
       go false h = h
 
-  -- where one test implies another, no more pass it
   pub count-le : (p q : A → Bool) → ((x : A) → p x ≡ true → q x ≡ true) → (xs : List A) → count p xs ≤ count q xs
   unfolding count
   count-le p q h [] = omega arith
@@ -53,8 +52,3 @@ module _ {A : Type 0} where
       go true e false f k = never (sym f ∙ h x e)
       go false e true f k = omega arith
       go false e false f k = k
-
-pub count-map : {A B : Type 0} (f : A → B) (p : B → Bool) (xs : List A) → count p (map f xs) ≡ count (λ x. p (f x)) xs
-unfolding count
-count-map f p [] = refl
-count-map f p (x ∷ xs) = rw (count-map f p xs)

@@ -1,32 +1,27 @@
 -- Demand 3, whole: for any accepted opening, any targets and any list of roots. What a series has come to (`Came`) gives each field of the claim.
 --     demand3     `Demand3` of specs/Claim
 -- Assumes nothing.
-use mathlib.Core.Path.{_≡_, refl, sym, ap, subst, _∙_}
-use mathlib.Core.Bool.{Bool, true, false, not}
-use mathlib.Core.List.{List, [], _∷_, _++_, map}
+use mathlib.Core.Path.{_≡_, sym, ap, _∙_}
+use mathlib.Core.Bool.{Bool, true, false}
+use mathlib.Core.List.{List, [], _++_, map}
 use Prim.Native.Nat.{ℕ, _≤_, _<_}
 use native.Mathlib.Omega.{arith}
 use lib.ListN.{length}
-use lib.Dec.{eqb, ltb}
+use lib.Dec.{eqb}
 use borrow.Author.Tests.{le-ltb}
-use Rattle.text.specs.Utf8.{firstIll}
 use Rattle.definitions.specs.declared.options.Settings.{Settings}
 use Rattle.definitions.specs.declared.records.Import.{Import}
-use Rattle.definitions.specs.declared.state.State.{State}
-use Rattle.definitions.specs.declared.state.Written.{Written}
-use Rattle.definitions.specs.declared.state.Written.the-variants as written
-use Rattle.definitions.specs.Judging.{Judged, accepted, refuse, refuseAt}
-use Rattle.definitions.specs.Opening.{judgeOpening}
+use Rattle.definitions.specs.Judging.{accepted, refuse, refuseAt}
 use Rattle.definitions.specs.Tree.{Root}
 use Rattle.definitions.specs.Calls.{Command, callBytes, noticeBytes, readCalls}
-use Rattle.definitions.specs.Store.{boundAfter, numbered, numberedAll}
+use Rattle.definitions.specs.Store.{boundAfter, numberedAll}
 use Rattle.definitions.specs.Lowering.{isClassic}
-use Rattle.definitions.specs.Records.{placeIn, recordTape, Entry}
-use Rattle.definitions.specs.States.{live, imports, unrepeated}
-use Rattle.definitions.specs.Entries.{laid, recordsFrom, judgeRecords, recordsAnswer, recordsTarget}
+use Rattle.definitions.specs.Records.{placeIn, Entry}
+use Rattle.definitions.specs.States.{unrepeated}
+use Rattle.definitions.specs.Entries.{recordsFrom, judgeRecords, recordsAnswer, recordsTarget}
 use Rattle.definitions.specs.Series.{World, opening, series, acceptedIn, treesOf, callsSoFar, noticesSoFar}
 use Rattle.definitions.specs.Callees.{calleeNamed, calleesOfRoots, calleesRead}
-use Rattle.definitions.specs.Claim.{mentions, mentioned, recordsTape, recordsSoFar, count, isOf, shares, says, Kept, Demand3}
+use Rattle.definitions.specs.Claim.{mentioned, recordsTape, recordsSoFar, count, isOf, shares, says, Demand3}
 use Rattle.definitions.proofs.ReadBack.{calls-back}
 use Rattle.definitions.proofs.Numbering.{importsOf, AllBound, all-bound, bound-after, bound-append, after-grows, numbered-at-last, mention-below, below-mention}
 use Rattle.definitions.proofs.Soundness.{imports-records}

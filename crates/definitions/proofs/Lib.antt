@@ -16,3 +16,5 @@ pub mod CalleeTree
 pub mod CalleeRecords
 pub mod RootSeries
 pub mod Demand3
+pub mod Weights
+pub mod TreeSizes

@@ -2,7 +2,7 @@
 --     moved-live      the records
 --     root-sound      an accepted root leaves a sound state
 -- Assumes nothing.
-use mathlib.Core.Path.{_≡_, refl, sym, ap, _∙_}
+use mathlib.Core.Path.{_≡_, ap, _∙_}
 use mathlib.Core.Bool.{true}
 use mathlib.Core.List.{List, []}
 use Prim.Native.Nat.{ℕ}
@@ -10,13 +10,11 @@ use lib.ListN.{length, drop}
 use lib.Seq.{take-at}
 use Rattle.definitions.specs.declared.options.Settings.{Settings}
 use Rattle.definitions.specs.declared.records.Import.{Import}
-use Rattle.definitions.specs.declared.records.Record.{Record}
 use Rattle.definitions.specs.declared.state.State.{State}
 use Rattle.definitions.specs.Judging.{accepted}
 use Rattle.definitions.specs.Tree.{Root}
-use Rattle.definitions.specs.Store.{boundAfter}
 use Rattle.definitions.specs.Lowering.{lowerRoot, commandsOf}
-use Rattle.definitions.specs.States.{live, imports, numberedFrom, unrepeated, allBindable, sound}
+use Rattle.definitions.specs.States.{live, imports, unrepeated, allBindable, sound}
 use Rattle.definitions.specs.Entries.{Lowered, loweredAfter, judgeRoot, recordsFrom, moved}
 use Rattle.definitions.proofs.Numbering.{importsOf, boundAll, bound-after}
 use Rattle.definitions.proofs.Soundness.{length-records, imports-records, records-numbered, unrepeated-all, bindable-all}

@@ -8,21 +8,21 @@
 --     all-bound                       what commands mention is bound after them
 --     mention-below, below-mention    the numbers mentioned are those of the things bound
 -- Assumes nothing.
-use mathlib.Core.Path.{_≡_, refl, sym, ap, subst, _∙_}
-use mathlib.Core.Bool.{Bool, true, false, cond, _&&_}
+use mathlib.Core.Path.{_≡_, refl, sym, ap, _∙_}
+use mathlib.Core.Bool.{Bool, true, false, cond}
 use mathlib.Core.List.{List, [], _∷_, _++_, map, append-nil, append-assoc}
-use Prim.Native.Nat.{ℕ, zero, suc, _+_, _≤_, _<_}
+use Prim.Native.Nat.{ℕ, suc, _≤_, _<_}
 use native.Mathlib.Omega.{arith}
 use lib.ListN.{length, length-append}
 use lib.Seq.{append-snoc}
-use lib.Dec.{eqb, ltb}
-use borrow.Author.Tests.{eqb-true, eqb-false, eq-eqb, ltb-true, ltb-false, lt-ltb, le-ltb}
+use lib.Dec.{eqb}
+use borrow.Author.Tests.{eqb-true, eqb-false, eq-eqb, ltb-true, ltb-false}
 use Rattle.definitions.specs.declared.records.Import.{Import}
 use Rattle.definitions.specs.declared.records.Import.the-variants.{Named, Default, FileName}
 use Rattle.definitions.specs.Calls.{Command, bare, byte, over, span, binding, source}
 use Rattle.definitions.specs.Store.{sameImport, numberIn, isBound, bound, boundBy, boundAfter, numbered, numberedAll}
 use Rattle.definitions.specs.Claim.{mentions, count}
-use Rattle.definitions.proofs.Counting.{never, both, count-append}
+use Rattle.definitions.proofs.Counting.{never, both}
 
 -- ---- the same thing
 

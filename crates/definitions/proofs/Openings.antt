@@ -3,15 +3,13 @@
 --     Opens, opening-opens   what is known of an accepted opening
 --     opening-sound          the state that it leaves is sound
 -- Assumes nothing.
-use mathlib.Core.Path.{_≡_, refl, sym, ap, subst, _∙_}
-use mathlib.Core.Bool.{Bool, true, false, cond, _&&_, _||_}
+use mathlib.Core.Path.{_≡_, refl, ap, subst}
+use mathlib.Core.Bool.{true, false}
 use mathlib.Core.List.{List, [], _∷_, _++_}
-use Prim.Native.Nat.{ℕ, zero, suc, _+_, _≤_}
+use Prim.Native.Nat.{ℕ, zero, suc}
 use native.Mathlib.Omega.{arith}
 use lib.ListN.{length, drop}
-use lib.Dec.{eqb}
 use borrow.Author.Tests.{eq-eqb}
-use Rattle.text.specs.declared.bytes.Found.{Found}
 use Rattle.text.specs.declared.bytes.Found.the-variants as found
 use Rattle.text.specs.declared.spans.Span.{Span}
 use Rattle.text.specs.declared.spans.Bounds.{Bounds}
@@ -19,19 +17,19 @@ use Rattle.text.specs.declared.spans.Bounds.the-variants as bounds
 use Rattle.text.specs.Utf8.{firstIll}
 use Rattle.text.specs.Spans.{boundsOf}
 use Rattle.tape.specs.declared.refusal.Fault.{Fault}
-use Rattle.tape.specs.declared.opening.FlagsCommand.{FlagsCommand}
-use Rattle.tape.specs.declared.opening.FlagsCommand.the-variants as flags
-use Rattle.tape.specs.declared.opening.OptionCommand.{OptionCommand}
-use Rattle.tape.specs.declared.opening.OptionCommand.the-variants as option
-use Rattle.tape.specs.Opening.{flagsCommand, optionCommand}
+use Rattle.commands.specs.declared.opening.FlagsCommand.{FlagsCommand}
+use Rattle.commands.specs.declared.opening.FlagsCommand.the-variants as flags
+use Rattle.commands.specs.declared.opening.OptionCommand.{OptionCommand}
+use Rattle.commands.specs.declared.opening.OptionCommand.the-variants as option
+use Rattle.commands.specs.Opening.{flagsCommand, optionCommand}
 use Rattle.definitions.specs.declared.options.Form.{Form}
 use Rattle.definitions.specs.declared.options.Options.{Options}
 use Rattle.definitions.specs.declared.options.Settings.{Settings}
-use Rattle.definitions.specs.Judging.{Parsed, done, stop, from, spanned, Judged, accepted, refuse, tooLong, refuseAt, read}
+use Rattle.definitions.specs.Judging.{Parsed, done, stop, from, spanned, accepted, tooLong}
 use Rattle.definitions.specs.Opening.{Opening, bare, withPragma, withPragmaFrag, withImportSource, andComment, optionBy, optionsFrom, openingBy, readOpening, optionsOf, settingsOf, pragmasChecked, judgeOpening}
 use Rattle.definitions.specs.States.{inOrder, borneOut, rootNumber, sameForm, numberedFrom, unrepeated, allBindable, sound}
 use Rattle.definitions.specs.Entries.{openState}
-use Rattle.definitions.proofs.Counting.{never, either-false}
+use Rattle.definitions.proofs.Counting.{either-false}
 use Rattle.definitions.proofs.Verdicts.{past, past-at, past-read, accepted-same, Sound, sound-whole}
 use Rattle.definitions.proofs.CommentSpans.{InOrder, in-order, AllInOrder, Borne, borne-whole, comments-borne}
 

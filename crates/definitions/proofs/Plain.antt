@@ -5,16 +5,16 @@
 --     plain-name, plain-text ..  what is plain
 --     commands-append            the commands of an output's parts
 -- Assumes nothing.
-use mathlib.Core.Path.{_≡_, refl, sym, ap, _∙_}
+use mathlib.Core.Path.{_≡_, refl, ap}
 use mathlib.Core.Bool.{Bool, true, false, cond, not, _&&_}
 use mathlib.Core.List.{List, [], _∷_, _++_}
-use Prim.Native.Nat.{ℕ, suc}
+use Prim.Native.Nat.{ℕ}
 use lib.Dec.{eqb, leb}
 use Rattle.text.specs.declared.spans.Span.{Span}
 use Rattle.text.specs.Bytes.{find}
 use Rattle.text.specs.Spans.{partOf}
 use Rattle.definitions.specs.declared.records.Import.{Import}
-use Rattle.definitions.specs.Tree.{Name, Property, unnamed, propName, Value, absent, string, expression, empty, nodeValue}
+use Rattle.definitions.specs.Tree.{Name, Property, unnamed, propName, Value}
 use Rattle.definitions.specs.Tree as tree
 use Rattle.definitions.specs.Calls.{Bare, WithByte, WithExpression, WithSpan, Command, bare, byte, over, span, binding, source, bareCode, Notice, valuelessKey, namespacedTag}
 use Rattle.definitions.specs.Calls as call

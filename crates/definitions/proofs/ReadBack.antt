@@ -11,9 +11,9 @@ use lib.ListN.{length, drop, length-append}
 use lib.Seq.{drop-append-seam}
 use lib.Dec.{ltb}
 use borrow.Author.Tests.{le-ltb}
-use Rattle.tape.specs.declared.root.Place.{Place}
+use Rattle.commands.specs.declared.root.Place.{Place}
 use Rattle.tape.specs.Numbers.{u16Bytes, u32Bytes, spanBytes}
-use Rattle.tape.specs.Root.{placeAt}
+use Rattle.commands.specs.Root.{placeAt}
 use Rattle.tape.proofs.ReadBack.{u16-back, u32-back, span-back}
 use Rattle.definitions.specs.Calls.{Bare, objectBegin, objectEnd, stringName, null, stringBegin, space, stringEnd, colon, literalTrue, literalFalse, voidZero, this, childrenBegin, key, tag, callee, self, WithByte, call, childrenEnd, pragma, member, callEnd, WithExpression, spreadProperty, carried, soleSpread, expression, spreadItem, WithSpan, name, piece, identifier, memberName, Command, bare, byte, over, span, binding, source, bareCode, byteCode, expressionCode, spanCode, bytesOf, callBytes, Kind, isBare, isByte, isOver, isSpan, isBinding, isSource, isNone, lookup, kinds, taking, readBy, readFirst, readFrom, readCalls}
 

@@ -5,26 +5,24 @@
 --     series-append                    a longer list of roots
 -- Assumes nothing.
 use mathlib.Core.Path.{_≡_, refl, sym, ap, subst, _∙_}
-use mathlib.Core.Bool.{Bool, true, false}
+use mathlib.Core.Bool.{true}
 use mathlib.Core.List.{List, [], _∷_, _++_, append-nil, append-assoc}
-use Prim.Native.Nat.{ℕ, _+_, _≤_}
+use Prim.Native.Nat.{ℕ, _≤_}
 use native.Mathlib.Omega.{arith}
-use lib.ListN.{length, take}
+use lib.ListN.{length}
 use Rattle.tape.specs.declared.refusal.Refusal.{Refusal}
 use Rattle.definitions.specs.declared.options.Settings.{Settings}
 use Rattle.definitions.specs.declared.records.Import.{Import}
-use Rattle.definitions.specs.declared.records.Record.{Record}
-use Rattle.definitions.specs.declared.state.State.{State}
 use Rattle.definitions.specs.declared.state.Answer.{Answer}
 use Rattle.definitions.specs.declared.state.Answer.the-variants as answer
-use Rattle.definitions.specs.Judging.{done, Judged, accepted, refused}
+use Rattle.definitions.specs.Judging.{Judged, accepted, refused}
 use Rattle.definitions.specs.Tree.{Root}
 use Rattle.definitions.specs.Reading.{readRoot}
 use Rattle.definitions.specs.Calls.{Command, bytesOf, callBytes, Notice, noticeBytesOf, noticeBytes}
 use Rattle.definitions.specs.Store.{boundAfter, numberedAll}
 use Rattle.definitions.specs.Lowering.{lowerRoot, commandsOf, noticesOf}
 use Rattle.definitions.specs.States.{live, imports, sound}
-use Rattle.definitions.specs.Entries.{laid, openState, Lowered, loweredAfter, judgeRoot, recordsFrom, moved, Outcome, outcomeBy, rootOutcome}
+use Rattle.definitions.specs.Entries.{openState, Lowered, loweredAfter, judgeRoot, recordsFrom, moved, outcomeBy, rootOutcome}
 use Rattle.definitions.specs.Series.{World, opening, outcomeIn, next, series, ifAccepted, acceptedIn, treeOf, treesOf, callsOfAll, noticesOfAll, callsSoFar, noticesSoFar}
 use Rattle.definitions.proofs.Numbering.{bound-append, numbered-append}
 use Rattle.definitions.proofs.Soundness.{imports-records}
@@ -67,7 +65,9 @@ module _ (text : List ℕ) (s : Settings) where
   calls-of-all js (r ∷ rs) =
       let cs = commandsOf (lowerRoot text s r) in
       let ds = commandsOfRoots text s rs in
-      rw (calls-of-all (boundAfter js cs) rs, numbered-append js cs ds) (sym (bytes-append (numberedAll js cs) (numberedAll (boundAfter js cs) ds)))
+      ap (λ (l : List ℕ). callBytes (numberedAll js cs) ++ l) (calls-of-all (boundAfter js cs) rs)
+      ∙ sym (bytes-append (numberedAll js cs) (numberedAll (boundAfter js cs) ds))
+      ∙ ap callBytes (sym (numbered-append js cs ds))
 
   pub notices-of-all : (js : List Import) (rs : List Root) → noticesOfAll text s js rs ≡ noticeBytes (noticesOfRoots text s rs)
   unfolding noticesOfAll noticesOfRoots loweredAfter noticeBytes

@@ -6,21 +6,19 @@
 use mathlib.Core.Path.{_≡_, refl, sym, ap, _∙_}
 use mathlib.Core.Bool.{Bool, true, false, cond, not, _&&_}
 use mathlib.Core.List.{List, [], _∷_, _++_, append-nil}
-use Prim.Native.Nat.{ℕ, suc, _+_, _≤_, _<_}
+use Prim.Native.Nat.{ℕ, suc, _≤_, _<_}
 use native.Mathlib.Omega.{arith}
 use lib.ListN.{length, length-append}
 use lib.Seq.{append-snoc}
-use lib.Dec.{eqb, ltb}
-use borrow.Author.Tests.{eq-eqb, ltb-true, ltb-false, not-true, lt-ltb}
+use borrow.Author.Tests.{eq-eqb, ltb-false, not-true, lt-ltb}
 use Rattle.definitions.specs.declared.options.Settings.{Settings}
 use Rattle.definitions.specs.declared.records.Import.{Import}
-use Rattle.definitions.specs.declared.records.Record.{Record}
 use Rattle.definitions.specs.Store.{sameImport, numberIn, isBound, bound, canBind}
 use Rattle.definitions.specs.States.{imports, numberedFrom, unrepeated, allBindable}
 use Rattle.definitions.specs.Entries.{recordsFrom}
 use Rattle.definitions.specs.Claim.{count}
 use Rattle.definitions.proofs.Counting.{never, both}
-use Rattle.definitions.proofs.Numbering.{same-is, number-le, number-append, number-added, boundAll}
+use Rattle.definitions.proofs.Numbering.{same-is, number-append, number-added, boundAll}
 
 -- ---- things as records
 

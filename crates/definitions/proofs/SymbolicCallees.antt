@@ -7,18 +7,18 @@
 use mathlib.Core.Path.{_≡_, refl, sym, ap, subst, _∙_}
 use mathlib.Core.Bool.{Bool, true, false, cond, not, _&&_}
 use mathlib.Core.List.{List, [], _∷_, _++_, map, map-append, append-nil, append-assoc}
-use Prim.Native.Nat.{ℕ, _+_}
-use Rattle.tape.specs.declared.root.Place.{Place}
+use Prim.Native.Nat.{ℕ}
+use Rattle.commands.specs.declared.root.Place.{Place}
 use Rattle.definitions.specs.declared.options.Mode.{Mode}
 use Rattle.definitions.specs.declared.options.Mode.the-variants.{Module, Script, Classic}
 use Rattle.definitions.specs.declared.records.Import.{Import}
 use Rattle.definitions.specs.declared.records.Import.the-variants.{Named, Default, FileName}
-use Rattle.definitions.specs.Calls.{Bare, Command, bare, byte, over, span, binding, source, bareCode}
+use Rattle.definitions.specs.Calls.{Command, bare, byte, over, span, binding, source, bareCode, byteCode}
 use Rattle.definitions.specs.Calls as call
-use Rattle.definitions.specs.Store.{sourceOf, numbered}
+use Rattle.definitions.specs.Store.{numbered}
 use Rattle.definitions.specs.Callees.{Callee, calleeNamed, nameBehind, isCallee}
 use Rattle.definitions.specs.Lowering.{Context, Output, emit, notify, put, putByte, imported, sourceOutput, isClassic, pureByte, closing, commandsOf}
-use Rattle.definitions.proofs.Counting.{never, both}
+use Rattle.definitions.proofs.Counting.{never}
 use Rattle.definitions.proofs.Plain.{plain, plainCommand, Plain, plain-put, plain-byte, commands-append}
 
 -- ---- callees of commands
@@ -115,7 +115,7 @@ tag-reads Classic n k = record { so = λ rest. refl }
 
 -- 9F and the callee
 callee-reads : (m : Mode) (n : ℕ) → isClassic m ≡ false → Reads (put call.callee ++ imported m n 0) (n ∷ [])
-unfolding imported commandsOf calleesOf calleeAfter calleeFor bareCode isClassic nameBehind numbered
+unfolding imported commandsOf calleesOf calleeAfter calleeFor bareCode byteCode isClassic nameBehind numbered
 callee-reads Module n e = record { so = λ rest. refl }
 callee-reads Script n e = record { so = λ rest. refl }
 callee-reads Classic n e = never (sym e)

@@ -4,19 +4,18 @@
 --     all-grouped                          the source of each record has exactly one group
 --     tape-count                           on a record tape as many entries pass a test as among the records
 -- Assumes nothing.
-use mathlib.Core.Path.{_≡_, refl, sym, ap, subst, _∙_}
+use mathlib.Core.Path.{_≡_, refl, sym, ap, _∙_}
 use mathlib.Core.Bool.{Bool, true, false, cond, _||_}
-use mathlib.Core.List.{List, [], _∷_, _++_, map, append-nil, append-assoc}
-use Prim.Native.Nat.{ℕ, zero, suc, _+_, _≤_, _<_}
+use mathlib.Core.List.{List, [], _∷_, _++_, append-assoc}
+use Prim.Native.Nat.{ℕ, suc, _+_, _≤_, _<_}
 use native.Mathlib.Omega.{arith}
-use lib.ListN.{length}
 use lib.Dec.{eqb}
 use borrow.Author.Tests.{eqb-true, eqb-false, eq-eqb, ne-eqb}
 use Rattle.definitions.specs.declared.options.Mode.{Mode}
 use Rattle.definitions.specs.declared.records.Import.{Import}
 use Rattle.definitions.specs.declared.records.Import.the-variants.{Named, Default, FileName}
 use Rattle.definitions.specs.declared.records.Record.{Record}
-use Rattle.definitions.specs.Records.{without, isAmong, withGroup, groupedBy, groupsFrom, entryIn, entriesIn, groupTape, placeIn, fileNameEntry, fileNameTape, recordTape, Entry, named, required, file, At, command, entriesFrom, readRecords}
+use Rattle.definitions.specs.Records.{without, isAmong, withGroup, groupedBy, groupsFrom, entryIn, entriesIn, groupTape, placeIn, fileNameEntry, fileNameTape, recordTape, Entry, named, required, file, command, entriesFrom, readRecords}
 use Rattle.definitions.specs.Claim.{count}
 use Rattle.definitions.proofs.Counting.{never, count-nil, count-append}
 

@@ -4,10 +4,10 @@
 --     sound-parts, sound-whole     a sound state is one in which six things hold
 --     Taken, root-taken            what is known of an accepted root
 -- Assumes nothing.
-use mathlib.Core.Path.{_≡_, refl, sym, ap, _∙_}
-use mathlib.Core.Bool.{Bool, true, false, not, _&&_, _||_}
-use mathlib.Core.List.{List, [], _∷_, _++_}
-use Prim.Native.Nat.{ℕ, _+_, _-_, _≤_, _<_}
+use mathlib.Core.Path.{_≡_, refl, ap}
+use mathlib.Core.Bool.{Bool, true, false, not, _&&_}
+use mathlib.Core.List.{List, [], _++_}
+use Prim.Native.Nat.{ℕ, _+_, _-_, _≤_}
 use native.Mathlib.Omega.{arith}
 use lib.ListN.{length, take, drop, length-append, length-take, length-drop}
 use lib.Seq.{take-at}
@@ -15,15 +15,14 @@ use lib.Dec.{ltb}
 use borrow.Author.Tests.{ltb-false, le-ltb, not-true, not-false}
 use Rattle.text.specs.declared.bytes.Found.{Found}
 use Rattle.text.specs.declared.bytes.Found.the-variants as found
-use Rattle.text.specs.Utf8.{firstIll}
 use Rattle.tape.specs.declared.refusal.Refusal.{Refusal}
 use Rattle.definitions.specs.declared.state.State.{State}
-use Rattle.definitions.specs.Judging.{Parsed, done, stop, Judged, accepted, refused, refuse, tooLong, refuseAt, read}
+use Rattle.definitions.specs.Judging.{Parsed, done, stop, Judged, accepted, refused, refuse, refuseAt, read}
 use Rattle.definitions.specs.Tree.{Root}
 use Rattle.definitions.specs.Reading.{readRoot}
 use Rattle.definitions.specs.States.{spansBorneOut, formsBorneOut, live, imports, numberedFrom, unrepeated, allBindable, sound, overfilled}
 use Rattle.definitions.specs.Entries.{laid, Lowered, loweredAfter, fitted, judgeRoot}
-use Rattle.definitions.proofs.Counting.{never, both, either-false}
+use Rattle.definitions.proofs.Counting.{never, either-false}
 
 -- ---- tests that refuse
 

@@ -11,7 +11,7 @@ use Rattle.text.specs.Chars.{isWhiteSpace, isLineTerminator}
 use Rattle.text.specs.Spans.{partOf}
 use Rattle.definitions.specs.Tree.{Property, Node, element, fragment, Attributes, noAttributes, attribute, namespacedAttribute, spread, literal, Value, absent, string, expression, empty, nodeValue, Children, noChildren, textChild, expressionChild, emptyChild, spreadChild, nodeChild, Root}
 use Rattle.definitions.specs.JsxText.{Placed, charsFrom}
-use Rattle.definitions.specs.Calls.{Bare, Command, bare, byte, over, span, binding, source}
+use Rattle.definitions.specs.Calls.{Bare, WithByte, Command, bare, byte, over, span, binding, source}
 use Rattle.definitions.specs.Calls as call
 use Rattle.definitions.specs.Store.{createElement, jsx, jsxs, jsxDev, sourceOf}
 use Rattle.definitions.specs.Records.{Entry, named, required, file}
@@ -158,11 +158,14 @@ calleeBy b n (named s m c ∷ es) = cond (eqb b c) (record { source = s; name = 
 calleeBy b n (required s c ∷ es) = cond (eqb b c) (record { source = s; name = n } ∷ []) (calleeBy b n es)
 calleeBy b n (file c p ∷ es) = calleeBy b n es
 
--- the name behind a binding, or one that is no name
+abbrev pub isMember : WithByte → Bool
+isMember c = eqb (call.byteCode c) 0x99
+
+-- the name behind a binding, "in its 99", or a number that is no name
 unfoldable pub nameBehind : List (Command ℕ) → ℕ
 nameBehind [] = 255
 nameBehind (bare c ∷ cs) = 255
-nameBehind (byte c n ∷ cs) = n
+nameBehind (byte c n ∷ cs) = cond (isMember c) n 255
 nameBehind (over c e ∷ cs) = 255
 nameBehind (span c s ∷ cs) = 255
 nameBehind (binding b ∷ cs) = 255

@@ -5,9 +5,9 @@ use mathlib.Core.List.{List, [], _∷_, _++_}
 use lib.ListN.{length, drop, getD}
 use lib.Dec.{eqb, ltb}
 use Rattle.text.specs.declared.spans.Span.{Span}
-use Rattle.tape.specs.declared.root.Place.{Place}
+use Rattle.commands.specs.declared.root.Place.{Place}
 use Rattle.tape.specs.Numbers.{u16At, spanAt, u16Bytes, u32Bytes, spanBytes}
-use Rattle.tape.specs.Root.{placeAt}
+use Rattle.commands.specs.Root.{placeAt}
 
 -- ---- the commands, by their operands
 

@@ -9,7 +9,7 @@ use Rattle.text.specs.declared.bytes.Found.the-variants as found
 use Rattle.text.specs.declared.spans.Span.{Span}
 use Rattle.text.specs.Bytes.{ascii, same, find}
 use Rattle.text.specs.Spans.{partOf}
-use Rattle.tape.specs.declared.root.Place.{Place}
+use Rattle.commands.specs.declared.root.Place.{Place}
 use Rattle.definitions.specs.declared.options.Flags.{Flags}
 use Rattle.definitions.specs.declared.options.Mode.{Mode}
 use Rattle.definitions.specs.declared.options.Mode.the-variants.{Module, Script, Classic}

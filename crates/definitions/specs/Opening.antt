@@ -9,13 +9,13 @@ use Rattle.text.specs.declared.spans.Span.{Span}
 use Rattle.text.specs.Bytes.{ascii, find, overAscii}
 use Rattle.text.specs.Utf8.{firstIll}
 use Rattle.text.specs.Spans.{partOf, boundsOf}
-use Rattle.tape.specs.declared.opening.FlagsCommand.{FlagsCommand}
-use Rattle.tape.specs.declared.opening.FlagsCommand.the-variants as flags
-use Rattle.tape.specs.declared.opening.OptionCommand.{OptionCommand}
-use Rattle.tape.specs.declared.opening.OptionCommand.the-variants as option
+use Rattle.commands.specs.declared.opening.FlagsCommand.{FlagsCommand}
+use Rattle.commands.specs.declared.opening.FlagsCommand.the-variants as flags
+use Rattle.commands.specs.declared.opening.OptionCommand.{OptionCommand}
+use Rattle.commands.specs.declared.opening.OptionCommand.the-variants as option
 use Rattle.tape.specs.declared.refusal.Refusal.{Refusal}
 use Rattle.tape.specs.declared.refusal.Refusal.the-variants as refusal
-use Rattle.tape.specs.Opening.{flagsCommand, optionCommand}
+use Rattle.commands.specs.Opening.{flagsCommand, optionCommand}
 use Rattle.definitions.specs.declared.options.Optional.{Optional}
 use Rattle.definitions.specs.declared.options.Optional.the-variants.{Absent, Present}
 use Rattle.definitions.specs.declared.options.Flags.{Flags}

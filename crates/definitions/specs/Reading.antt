@@ -12,24 +12,24 @@ use Rattle.text.specs.Bytes.{find}
 use Rattle.text.specs.Spans.{partOf, boundsOf}
 use Rattle.tape.specs.declared.refusal.Fault.{Fault}
 use Rattle.tape.specs.declared.refusal.Fault.the-variants as fault
-use Rattle.tape.specs.declared.root.Place.{Place}
-use Rattle.tape.specs.declared.root.HeritageCommand.{HeritageCommand}
-use Rattle.tape.specs.declared.root.HeritageCommand.the-variants as heritages
-use Rattle.tape.specs.declared.root.ScopeCommand.{ScopeCommand}
-use Rattle.tape.specs.declared.root.ScopeCommand.the-variants as scopes
-use Rattle.tape.specs.declared.root.NameCommand.{NameCommand}
-use Rattle.tape.specs.declared.root.NameCommand.the-variants as names
-use Rattle.tape.specs.declared.root.MemberCommand.{MemberCommand}
-use Rattle.tape.specs.declared.root.MemberCommand.the-variants as members
-use Rattle.tape.specs.declared.root.AttributeCommand.{AttributeCommand}
-use Rattle.tape.specs.declared.root.AttributeCommand.the-variants as attributes
-use Rattle.tape.specs.declared.root.PropertyCommand.{PropertyCommand}
-use Rattle.tape.specs.declared.root.PropertyCommand.the-variants as properties
-use Rattle.tape.specs.declared.root.ValueCommand.{ValueCommand}
-use Rattle.tape.specs.declared.root.ValueCommand.the-variants as values
-use Rattle.tape.specs.declared.root.ChildCommand.{ChildCommand}
-use Rattle.tape.specs.declared.root.ChildCommand.the-variants as children
-use Rattle.tape.specs.Root.{heritageCommand, scopeCommand, nameCommand, memberCommand, attributeCommand, propertyCommand, valueCommand, childCommand}
+use Rattle.commands.specs.declared.root.Place.{Place}
+use Rattle.commands.specs.declared.root.HeritageCommand.{HeritageCommand}
+use Rattle.commands.specs.declared.root.HeritageCommand.the-variants as heritages
+use Rattle.commands.specs.declared.root.ScopeCommand.{ScopeCommand}
+use Rattle.commands.specs.declared.root.ScopeCommand.the-variants as scopes
+use Rattle.commands.specs.declared.root.NameCommand.{NameCommand}
+use Rattle.commands.specs.declared.root.NameCommand.the-variants as names
+use Rattle.commands.specs.declared.root.MemberCommand.{MemberCommand}
+use Rattle.commands.specs.declared.root.MemberCommand.the-variants as members
+use Rattle.commands.specs.declared.root.AttributeCommand.{AttributeCommand}
+use Rattle.commands.specs.declared.root.AttributeCommand.the-variants as attributes
+use Rattle.commands.specs.declared.root.PropertyCommand.{PropertyCommand}
+use Rattle.commands.specs.declared.root.PropertyCommand.the-variants as properties
+use Rattle.commands.specs.declared.root.ValueCommand.{ValueCommand}
+use Rattle.commands.specs.declared.root.ValueCommand.the-variants as values
+use Rattle.commands.specs.declared.root.ChildCommand.{ChildCommand}
+use Rattle.commands.specs.declared.root.ChildCommand.the-variants as children
+use Rattle.commands.specs.Root.{heritageCommand, scopeCommand, nameCommand, memberCommand, attributeCommand, propertyCommand, valueCommand, childCommand}
 use Rattle.definitions.specs.Judging.{Parsed, done, stop, _then_, map, from, wrong, cut, spanned, named, worse}
 use Rattle.definitions.specs.Tree.{Name, plain, identifier, this, namespaced, Property, unnamed, propName, Node, element, fragment, Attributes, noAttributes, attribute, namespacedAttribute, spread, literal, Value, absent, string, expression, empty, nodeValue, Children, noChildren, textChild, expressionChild, emptyChild, spreadChild, nodeChild, Root}
 

@@ -12,8 +12,8 @@ use Rattle.text.specs.Utf8.{within, width, after, illFrom, firstIll}
 use Rattle.text.specs.Chars.{charOf, isWhiteSpace, isLineTerminator}
 use Rattle.text.specs.Spans.{partOf, cutsAt, boundsOf}
 use Rattle.tape.specs.Refusals.{faultNumber, numberOf, figureOf}
-use Rattle.tape.specs.Opening.{flagsCommand, optionCommand}
-use Rattle.tape.specs.Root.{heritageCommand, scopeCommand, nameCommand, memberCommand, attributeCommand, propertyCommand, valueCommand, childCommand}
+use Rattle.commands.specs.Opening.{flagsCommand, optionCommand}
+use Rattle.commands.specs.Root.{heritageCommand, scopeCommand, nameCommand, memberCommand, attributeCommand, propertyCommand, valueCommand, childCommand}
 use Rattle.definitions.specs.declared.options.Optional.{Optional}
 use Rattle.definitions.specs.declared.options.Optional.the-variants.{Absent, Present}
 use Rattle.definitions.specs.declared.options.PragmaRoot.the-variants as root

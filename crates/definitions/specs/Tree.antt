@@ -2,7 +2,7 @@
 use Prim.Native.Nat.{ℕ}
 use mathlib.Core.List.{List}
 use Rattle.text.specs.declared.spans.Span.{Span}
-use Rattle.tape.specs.declared.root.Place.{Place}
+use Rattle.commands.specs.declared.root.Place.{Place}
 
 -- "20 S string; 21 S identifier or 22 `this`, each with any number of 25 S properties; 23 S S namespaced"
 pub data Name : Type 0 where

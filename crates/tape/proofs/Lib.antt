@@ -1,4 +1,2 @@
 pub mod Targets
-pub mod Operands
-pub mod Lengths
 pub mod ReadBack

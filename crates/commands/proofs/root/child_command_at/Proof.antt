@@ -1,0 +1,119 @@
+use mathlib.Core.Path.{ap}
+use borrow.Author.Tests.{lt-ltb, le-ltb, ne-eqb}
+use borrow.Author.Needs.{needs}
+use Rattle.commands.specs.Root.{childCommand}
+use Rattle.commands.specs.declared.root.ChildCommand.the-variants as child
+use Rattle.commands.proofs.Operands.{at-end, at-first}
+use Rattle.commands.proofs.root.child_command_at.Statement.{statement}
+use Rattle.commands.proofs.root.child_command_at.Tie as tie
+
+returns : tie.Need-returns
+unfolding childCommand
+returns c = rw (at-end childCommand _ (c .if1 .taken))
+
+sub-rest : tie.Need-sub-rest
+sub-rest c = search needs
+
+part-rest-start : tie.Need-part-rest-start
+part-rest-start c = search needs
+
+part-rest-end : tie.Need-part-rest-end
+part-rest-end c = search needs
+
+shared-slice-read-match : tie.Need-shared-slice-read-match
+shared-slice-read-match c = search needs
+
+returns-2 : tie.Need-returns-2
+unfolding childCommand
+returns-2 c = rw (at-first childCommand _ (c .before .before .before .before .if1 .left), c .before .match .keys1, lt-ltb _ _ (c .if2 .taken))
+
+read-span-requires : tie.Need-read-span-requires
+read-span-requires c κs = search needs
+
+returns-3 : tie.Need-returns-3
+unfolding childCommand
+returns-3 c = rw (at-first childCommand _ (c .before .before .before .before .if1 .left), c .before .match .keys2, lt-ltb _ _ (c .if3 .taken))
+
+read-u16-requires : tie.Need-read-u16-requires
+read-u16-requires c κs = search needs
+
+returns-4 : tie.Need-returns-4
+unfolding childCommand
+returns-4 c = rw (at-first childCommand _ (c .before .before .before .before .if1 .left), c .before .match .keys4, lt-ltb _ _ (c .if4 .taken))
+
+read-u16-requires-2 : tie.Need-read-u16-requires-2
+read-u16-requires-2 c κs = search needs
+
+returns-5 : tie.Need-returns-5
+unfolding childCommand
+returns-5 c = rw (at-first childCommand _ (c .before .before .before .before .if1 .left), c .before .match .keys5, lt-ltb _ _ (c .if5 .taken))
+
+read-place-requires : tie.Need-read-place-requires
+read-place-requires c κs = search needs
+
+returns-6 : tie.Need-returns-6
+unfolding childCommand
+returns-6 c = rw (at-first childCommand _ (c .before .before .before .before .if1 .left), c .before .match .keys6, lt-ltb _ _ (c .if6 .taken))
+
+read-place-requires-2 : tie.Need-read-place-requires-2
+read-place-requires-2 c κs = search needs
+
+returns-7 : tie.Need-returns-7
+unfolding childCommand
+returns-7 c = rw (at-first childCommand _ (c .before .before .before .before .before .if1 .left), c .before .before .match .keys1, le-ltb _ _ (c .before .if2 .left)) (ap child.Text (c .read-span .ensures))
+
+returns-8 : tie.Need-returns-8
+unfolding childCommand
+returns-8 c = rw (at-first childCommand _ (c .before .before .before .before .before .if1 .left), c .before .before .match .keys2, le-ltb _ _ (c .before .if3 .left)) (ap child.Expression (c .read-u16 .ensures))
+
+returns-9 : tie.Need-returns-9
+unfolding childCommand
+returns-9 c = rw (at-first childCommand _ (c .before .before .before .if1 .left), c .match .keys3)
+
+returns-10 : tie.Need-returns-10
+unfolding childCommand
+returns-10 c = rw (at-first childCommand _ (c .before .before .before .before .before .if1 .left), c .before .before .match .keys4, le-ltb _ _ (c .before .if4 .left)) (ap child.Spread (c .read-u162 .ensures))
+
+returns-11 : tie.Need-returns-11
+unfolding childCommand
+returns-11 c = rw (at-first childCommand _ (c .before .before .before .before .before .if1 .left), c .before .before .match .keys5, le-ltb _ _ (c .before .if5 .left)) (ap child.Element (c .read-place .ensures))
+
+returns-12 : tie.Need-returns-12
+unfolding childCommand
+returns-12 c = rw (at-first childCommand _ (c .before .before .before .before .before .if1 .left), c .before .before .match .keys6, le-ltb _ _ (c .before .if6 .left)) (ap child.Fragment (c .read-place2 .ensures))
+
+returns-13 : tie.Need-returns-13
+unfolding childCommand
+returns-13 c = rw (at-first childCommand _ (c .before .before .before .if1 .left), c .match .keys7)
+
+returns-14 : tie.Need-returns-14
+unfolding childCommand
+returns-14 c = rw (at-first childCommand _ (c .before .before .before .if1 .left), ne-eqb _ _ (c .match .rest .0 .0 .0 .0 .0 .0 .1), ne-eqb _ _ (c .match .rest .0 .0 .0 .0 .0 .1), ne-eqb _ _ (c .match .rest .0 .0 .0 .0 .1), ne-eqb _ _ (c .match .rest .0 .0 .0 .1), ne-eqb _ _ (c .match .rest .0 .0 .1), ne-eqb _ _ (c .match .rest .0 .1), ne-eqb _ _ (c .match .rest .1))
+
+pub child-command-at-spec : {M : Type 1} → statement M
+child-command-at-spec =
+    tie.close
+    (tie.spec
+    returns
+    sub-rest
+    part-rest-start
+    part-rest-end
+    shared-slice-read-match
+    returns-2
+    read-span-requires
+    returns-3
+    read-u16-requires
+    returns-4
+    read-u16-requires-2
+    returns-5
+    read-place-requires
+    returns-6
+    read-place-requires-2
+    returns-7
+    returns-8
+    returns-9
+    returns-10
+    returns-11
+    returns-12
+    returns-13
+    returns-14)

@@ -1,0 +1,4 @@
+pub mod Opening
+pub mod Root
+pub mod Sizes
+pub mod Examples
