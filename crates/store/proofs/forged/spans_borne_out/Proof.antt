@@ -1,0 +1,33 @@
+use Prim.Native.Nat.{_-_}
+use borrow.Author.Needs.{needs}
+use Rattle.store.proofs.forged.spans_borne_out.Statement.{statement}
+use Rattle.store.proofs.forged.spans_borne_out.Tie as tie
+
+borne-out-requires : tie.Need-borne-out-requires
+borne-out-requires c κs = search needs
+
+borne-out-requires-2 : tie.Need-borne-out-requires-2
+borne-out-requires-2 c κs = search needs
+
+borne-out-requires-3 : tie.Need-borne-out-requires-3
+borne-out-requires-3 c κs = search needs
+
+borne-out-requires-4 : tie.Need-borne-out-requires-4
+borne-out-requires-4 c κs = search needs
+
+borne-out-requires-5 : tie.Need-borne-out-requires-5
+borne-out-requires-5 c κs = search needs
+
+returns : tie.Need-returns
+returns c = rw ((c .before .before .before .before .borne-out) .ensures, (c .before .before .before .borne-out2) .ensures, (c .before .before .borne-out3) .ensures, (c .before .borne-out4) .ensures, (c .borne-out5) .ensures)
+
+pub spans-borne-out-spec : {M : Type 1} → statement M
+spans-borne-out-spec =
+    tie.close
+    (tie.spec
+    borne-out-requires
+    borne-out-requires-2
+    borne-out-requires-3
+    borne-out-requires-4
+    borne-out-requires-5
+    returns)

@@ -1,0 +1,4 @@
+pub mod Adding
+pub mod Following
+pub mod Grouping
+pub mod Tape
