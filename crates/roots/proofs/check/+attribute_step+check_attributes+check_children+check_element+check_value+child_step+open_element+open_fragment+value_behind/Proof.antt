@@ -1,0 +1,1042 @@
+use Rattle.roots.proofs.Commands.{value-absent, value-text, value-expression, value-empty, value-element, value-fragment, value-wrong, value-cut, opens-bad, opens-element, opens-fragment, element-reach, element-no-name, element-no-attributes, element-whole}
+use Rattle.roots.proofs.Firsts.{named-within, attributes-plain, attributes-namespaced, attributes-spread, attributes-literal, attributes-end, attributes-wrong, attributes-cut, children-text, children-expression, children-empty, children-spread, children-element, children-fragment, children-end, children-wrong, children-cut}
+use Rattle.roots.proofs.Loops.{Passed, passed-none, passed-next, next-less, end-inside, bad-inside, passed-end, passed-bad}
+use Rattle.roots.proofs.Behind.{part-length, part-reach, shifted-within, reports-within, within-good, behind-good, behind-bad}
+use Rattle.roots.proofs.Readings.{name-reads, properties-reads, attributes-reads, value-reads, children-reads}
+use Rattle.roots.proofs.Scans.{opened-shallow}
+use Rattle.roots.specs.Checking.{report}
+use Rattle.definitions.specs.Reading.{elementAt, fragmentAt, attributesAt, valueAt, childrenAt}
+use Rattle.commands.proofs.Lengths.{attribute-fits, value-fits, child-fits}
+use Rattle.text.proofs.Lists.{told}
+use borrow.Author.Needs.{needs}
+use Prim.Native.Nat.{ℕ, suc, _≤_, _<_, _+_, _-_, _*_}
+use native.Mathlib.Omega.{arith}
+use mathlib.Core.Path.{_≡_, refl, sym, ap, subst, _∙_}
+use lib.ListN.{length, getD, take, drop}
+use borrow.Fn.Kinds.{In}
+use borrow.Fn.PlainCycle.{Measures, is, falls, and}
+use Rattle.roots.proofs.check.attribute_step.Reads as attribute-step
+use Rattle.roots.proofs.check.attribute_step.Kinds as attribute-step-kinds
+use Rattle.roots.proofs.check.+attribute_step+check_attributes+check_children+check_element+check_value+child_step+open_element+open_fragment+value_behind.Lts-attribute_step as attribute-step-lts
+use Rattle.roots.proofs.check.check_attributes.Reads as check-attributes
+use Rattle.roots.proofs.check.check_attributes.Kinds as check-attributes-kinds
+use Rattle.roots.proofs.check.+attribute_step+check_attributes+check_children+check_element+check_value+child_step+open_element+open_fragment+value_behind.Lts-check_attributes as check-attributes-lts
+use Rattle.roots.proofs.check.check_children.Reads as check-children
+use Rattle.roots.proofs.check.check_children.Kinds as check-children-kinds
+use Rattle.roots.proofs.check.+attribute_step+check_attributes+check_children+check_element+check_value+child_step+open_element+open_fragment+value_behind.Lts-check_children as check-children-lts
+use Rattle.roots.proofs.check.check_element.Reads as check-element
+use Rattle.roots.proofs.check.check_element.Kinds as check-element-kinds
+use Rattle.roots.proofs.check.+attribute_step+check_attributes+check_children+check_element+check_value+child_step+open_element+open_fragment+value_behind.Lts-check_element as check-element-lts
+use Rattle.roots.proofs.check.check_value.Reads as check-value
+use Rattle.roots.proofs.check.check_value.Kinds as check-value-kinds
+use Rattle.roots.proofs.check.+attribute_step+check_attributes+check_children+check_element+check_value+child_step+open_element+open_fragment+value_behind.Lts-check_value as check-value-lts
+use Rattle.roots.proofs.check.child_step.Reads as child-step
+use Rattle.roots.proofs.check.child_step.Kinds as child-step-kinds
+use Rattle.roots.proofs.check.+attribute_step+check_attributes+check_children+check_element+check_value+child_step+open_element+open_fragment+value_behind.Lts-child_step as child-step-lts
+use Rattle.roots.proofs.check.open_element.Reads as open-element
+use Rattle.roots.proofs.check.open_element.Kinds as open-element-kinds
+use Rattle.roots.proofs.check.+attribute_step+check_attributes+check_children+check_element+check_value+child_step+open_element+open_fragment+value_behind.Lts-open_element as open-element-lts
+use Rattle.roots.proofs.check.open_fragment.Reads as open-fragment
+use Rattle.roots.proofs.check.open_fragment.Kinds as open-fragment-kinds
+use Rattle.roots.proofs.check.+attribute_step+check_attributes+check_children+check_element+check_value+child_step+open_element+open_fragment+value_behind.Lts-open_fragment as open-fragment-lts
+use Rattle.roots.proofs.check.value_behind.Reads as value-behind
+use Rattle.roots.proofs.check.value_behind.Kinds as value-behind-kinds
+use Rattle.roots.proofs.check.+attribute_step+check_attributes+check_children+check_element+check_value+child_step+open_element+open_fragment+value_behind.Lts-value_behind as value-behind-lts
+use Rattle.roots.proofs.check.check_label.Reads as check-label-reads
+use Rattle.roots.proofs.check.check_labels.Reads as check-labels-reads
+use Rattle.roots.proofs.check.check_name.Reads as check-name-reads
+use Rattle.roots.proofs.check.check_place.Reads as check-place-reads
+use Rattle.roots.proofs.check.check_properties.Reads as check-properties-reads
+use Rattle.roots.proofs.check.check_text.Reads as check-text-reads
+use Rattle.roots.proofs.check.further.Reads as further-reads
+use Rattle.roots.proofs.check.onward.Reads as onward-reads
+use Rattle.commands.proofs.root.attribute_command_at.Reads as attribute-command-at-reads
+use Rattle.commands.proofs.root.child_command_at.Reads as child-command-at-reads
+use Rattle.commands.proofs.root.value_command_at.Reads as value-command-at-reads
+use Rattle.roots.proofs.check.+attribute_step+check_attributes+check_children+check_element+check_value+child_step+open_element+open_fragment+value_behind.{
+  statement,
+}
+use Rattle.roots.proofs.check.+attribute_step+check_attributes+check_children+check_element+check_value+child_step+open_element+open_fragment+value_behind.Tie.{
+  close,
+}
+
+abbrev μ-attribute-step : Measures 2 attribute-step-kinds.ps ℕ
+μ-attribute-step κs a = 4 * length (a .1 .0 .now) + 1
+
+abbrev μ-check-attributes : Measures 2 check-attributes-kinds.ps ℕ
+μ-check-attributes κs a = 4 * length (a .1 .0 .now) + 2
+
+abbrev μ-check-children : Measures 2 check-children-kinds.ps ℕ
+μ-check-children κs a = 4 * length (a .1 .0 .now) + 2
+
+abbrev μ-check-element : Measures 2 check-element-kinds.ps ℕ
+μ-check-element κs a = 4 * length (a .1 .0 .now) + 3
+
+abbrev μ-check-value : Measures 2 check-value-kinds.ps ℕ
+μ-check-value κs a = 4 * length (a .1 .0 .now) + 1
+
+abbrev μ-child-step : Measures 2 child-step-kinds.ps ℕ
+μ-child-step κs a = 4 * length (a .1 .0 .now) + 1
+
+abbrev μ-open-element : Measures 2 open-element-kinds.ps ℕ
+μ-open-element κs a = 4 * length (a .1 .0 .now) + 0
+
+abbrev μ-open-fragment : Measures 2 open-fragment-kinds.ps ℕ
+μ-open-fragment κs a = 4 * length (a .1 .0 .now) + 0
+
+abbrev μ-value-behind : Measures 2 value-behind-kinds.ps ℕ
+μ-value-behind κs a = 4 * length (a .1 .0 .now) + 0
+
+abbrev attribute-step-at : ℕ → In 2 attribute-step-kinds.ps
+attribute-step-at t =
+    and
+    2
+    attribute-step-kinds.ps
+    (is 2 attribute-step-kinds.ps μ-attribute-step t)
+    attribute-step.Pre
+
+abbrev attribute-step-below : ℕ → In 2 attribute-step-kinds.ps
+attribute-step-below t =
+    and
+    2
+    attribute-step-kinds.ps
+    (falls 2 attribute-step-kinds.ps _<_ μ-attribute-step t)
+    attribute-step.Pre
+
+abbrev check-attributes-at : ℕ → In 2 check-attributes-kinds.ps
+check-attributes-at t =
+    and
+    2
+    check-attributes-kinds.ps
+    (is 2 check-attributes-kinds.ps μ-check-attributes t)
+    check-attributes.Pre
+
+abbrev check-attributes-below : ℕ → In 2 check-attributes-kinds.ps
+check-attributes-below t =
+    and
+    2
+    check-attributes-kinds.ps
+    (falls 2 check-attributes-kinds.ps _<_ μ-check-attributes t)
+    check-attributes.Pre
+
+abbrev check-children-at : ℕ → In 2 check-children-kinds.ps
+check-children-at t =
+    and
+    2
+    check-children-kinds.ps
+    (is 2 check-children-kinds.ps μ-check-children t)
+    check-children.Pre
+
+abbrev check-children-below : ℕ → In 2 check-children-kinds.ps
+check-children-below t =
+    and
+    2
+    check-children-kinds.ps
+    (falls 2 check-children-kinds.ps _<_ μ-check-children t)
+    check-children.Pre
+
+abbrev check-element-at : ℕ → In 2 check-element-kinds.ps
+check-element-at t =
+    and 2 check-element-kinds.ps (is 2 check-element-kinds.ps μ-check-element t) check-element.Pre
+
+abbrev check-element-below : ℕ → In 2 check-element-kinds.ps
+check-element-below t =
+    and
+    2
+    check-element-kinds.ps
+    (falls 2 check-element-kinds.ps _<_ μ-check-element t)
+    check-element.Pre
+
+abbrev check-value-at : ℕ → In 2 check-value-kinds.ps
+check-value-at t =
+    and 2 check-value-kinds.ps (is 2 check-value-kinds.ps μ-check-value t) check-value.Pre
+
+abbrev check-value-below : ℕ → In 2 check-value-kinds.ps
+check-value-below t =
+    and 2 check-value-kinds.ps (falls 2 check-value-kinds.ps _<_ μ-check-value t) check-value.Pre
+
+abbrev child-step-at : ℕ → In 2 child-step-kinds.ps
+child-step-at t =
+    and 2 child-step-kinds.ps (is 2 child-step-kinds.ps μ-child-step t) child-step.Pre
+
+abbrev child-step-below : ℕ → In 2 child-step-kinds.ps
+child-step-below t =
+    and 2 child-step-kinds.ps (falls 2 child-step-kinds.ps _<_ μ-child-step t) child-step.Pre
+
+abbrev open-element-at : ℕ → In 2 open-element-kinds.ps
+open-element-at t =
+    and 2 open-element-kinds.ps (is 2 open-element-kinds.ps μ-open-element t) open-element.Pre
+
+abbrev open-element-below : ℕ → In 2 open-element-kinds.ps
+open-element-below t =
+    and
+    2
+    open-element-kinds.ps
+    (falls 2 open-element-kinds.ps _<_ μ-open-element t)
+    open-element.Pre
+
+abbrev open-fragment-at : ℕ → In 2 open-fragment-kinds.ps
+open-fragment-at t =
+    and 2 open-fragment-kinds.ps (is 2 open-fragment-kinds.ps μ-open-fragment t) open-fragment.Pre
+
+abbrev open-fragment-below : ℕ → In 2 open-fragment-kinds.ps
+open-fragment-below t =
+    and
+    2
+    open-fragment-kinds.ps
+    (falls 2 open-fragment-kinds.ps _<_ μ-open-fragment t)
+    open-fragment.Pre
+
+abbrev value-behind-at : ℕ → In 2 value-behind-kinds.ps
+value-behind-at t =
+    and 2 value-behind-kinds.ps (is 2 value-behind-kinds.ps μ-value-behind t) value-behind.Pre
+
+abbrev value-behind-below : ℕ → In 2 value-behind-kinds.ps
+value-behind-below t =
+    and
+    2
+    value-behind-kinds.ps
+    (falls 2 value-behind-kinds.ps _<_ μ-value-behind t)
+    value-behind.Pre
+
+abbrev attribute-step-claims : ℕ → attribute-step-lts.Claims
+attribute-step-claims t = (attribute-command-at-reads.Asked, attribute-command-at-reads.Learnt, check-label-reads.Asked, check-label-reads.Learnt, value-behind-below t, value-behind.Post, onward-reads.Asked, onward-reads.Learnt, check-labels-reads.Asked, check-labels-reads.Learnt, check-properties-reads.Asked, check-properties-reads.Learnt, further-reads.Asked, further-reads.Learnt)
+
+abbrev check-attributes-claims : ℕ → check-attributes-lts.Claims
+check-attributes-claims t = (attribute-step-below t, attribute-step.Post)
+
+abbrev check-children-claims : ℕ → check-children-lts.Claims
+check-children-claims t = (child-step-below t, child-step.Post)
+
+abbrev check-element-claims : ℕ → check-element-lts.Claims
+check-element-claims t = (check-name-reads.Asked, check-name-reads.Learnt, check-attributes-below t, check-attributes.Post, further-reads.Asked, further-reads.Learnt, check-children-below t, check-children.Post)
+
+abbrev check-value-claims : ℕ → check-value-lts.Claims
+check-value-claims t = (value-command-at-reads.Asked, value-command-at-reads.Learnt, check-text-reads.Asked, check-text-reads.Learnt, open-element-below t, open-element.Post, open-fragment-below t, open-fragment.Post)
+
+abbrev child-step-claims : ℕ → child-step-lts.Claims
+child-step-claims t = (child-command-at-reads.Asked, child-command-at-reads.Learnt, check-text-reads.Asked, check-text-reads.Learnt, onward-reads.Asked, onward-reads.Learnt, open-element-below t, open-element.Post, open-fragment-below t, open-fragment.Post)
+
+abbrev open-element-claims : ℕ → open-element-lts.Claims
+open-element-claims t = (check-place-reads.Asked, check-place-reads.Learnt, check-element-below t, check-element.Post, further-reads.Asked, further-reads.Learnt)
+
+abbrev open-fragment-claims : ℕ → open-fragment-lts.Claims
+open-fragment-claims t = (check-place-reads.Asked, check-place-reads.Learnt, check-children-below t, check-children.Post, further-reads.Asked, further-reads.Learnt)
+
+abbrev value-behind-claims : ℕ → value-behind-lts.Claims
+value-behind-claims t = (check-value-below t, check-value.Post, further-reads.Asked, further-reads.Learnt)
+
+-- the name of an element stays within the tape, and so do the attributes behind it
+check-element-named : (t : ℕ) (c : check-element-lts.After-known-told (check-element-claims t) (check-element-at t) check-element.Post) → (1 ≤ (c .before .name) .given .0 .0) × ((c .before .name) .given .0 .0 ≤ length ((c .before .before .before .before .before .before .args) .tape .now))
+check-element-named t c = within-good ((c .before .name) .given .1) (reports-within (λ f t. name-reads f ((c .before .before .before .before .before .before .args) .text .now) t) ((c .before .before .before .check-name) .ensures))
+
+check-element-attributed : (t : ℕ) (c : check-element-lts.After-known-told2 (check-element-claims t) (check-element-at t) check-element.Post) → (1 ≤ (c .before .attributes) .given .0 .0) × ((c .before .attributes) .given .0 .0 ≤ length ((c .before .before .before .before .before .before .before .before .before .before .before .before .args) .tape .now))
+check-element-attributed t c =
+    let n : (1 ≤ (c .before .before .before .before .before .before .before .name) .given .0 .0) × ((c .before .before .before .before .before .before .before .name) .given .0 .0 ≤ length ((c .before .before .before .before .before .before .before .before .before .before .before .before .args) .tape .now)) = check-element-named t ((c .before .before .before .before .before .before)) in
+    within-good ((c .before .attributes) .given .1) (shifted-within (λ f t. attributes-reads f ((c .before .before .before .before .before .before .before .before .before .before .before .before .args) .text .now) ((c .before .before .before .before .before .before .before .before .before .before .before .before .args) .depth + 1) t) _ ((c .before .before .before .before .before .before .before .before .before .before .before .before .args) .tape .now) (n .0) (n .1) ((c .before .before .before .before .check-attributes) .ensures) ((c .before .before .before .further) .ensures))
+
+-- src/check.rt:310:9
+attribute-step-attribute-command-at-requires : (t : ℕ) → attribute-step-lts.Need-attribute-command-at-requires (attribute-step-claims t) (attribute-step-at t) attribute-step.Post
+attribute-step-attribute-command-at-requires t c κs = search needs
+
+-- src/check.rt:312:33
+attribute-step-enum-known-command : (t : ℕ) → attribute-step-lts.Need-enum-known-command (attribute-step-claims t) (attribute-step-at t) attribute-step.Post
+attribute-step-enum-known-command t c = search needs
+
+-- src/check.rt:312:78
+attribute-step-check-label-requires : (t : ℕ) → attribute-step-lts.Need-check-label-requires (attribute-step-claims t) (attribute-step-at t) attribute-step.Post
+attribute-step-check-label-requires t c κs = search needs
+
+-- src/check.rt:312:46
+attribute-step-value-behind-requires : (t : ℕ) → attribute-step-lts.Need-value-behind-requires (attribute-step-claims t) (attribute-step-at t) attribute-step.Post
+attribute-step-value-behind-requires t c κs = (omega arith, named-within 5 _ (omega arith) (attribute-fits _ (told ((c .before .before .before .before .attribute-command-at) .ensures) ((c .before .before .command) .given .1))) _ ((c .check-label) .ensures))
+
+-- src/check.rt:312:39
+attribute-step-onward-requires : (t : ℕ) → attribute-step-lts.Need-onward-requires (attribute-step-claims t) (attribute-step-at t) attribute-step.Post
+attribute-step-onward-requires t c κs = search needs
+
+-- src/check.rt:313:38
+attribute-step-enum-known-command-2 : (t : ℕ) → attribute-step-lts.Need-enum-known-command-2 (attribute-step-claims t) (attribute-step-at t) attribute-step.Post
+attribute-step-enum-known-command-2 t c = search needs
+
+-- src/check.rt:313:86
+attribute-step-check-labels-requires : (t : ℕ) → attribute-step-lts.Need-check-labels-requires (attribute-step-claims t) (attribute-step-at t) attribute-step.Post
+attribute-step-check-labels-requires t c κs = search needs
+
+-- src/check.rt:313:54
+attribute-step-value-behind-requires-2 : (t : ℕ) → attribute-step-lts.Need-value-behind-requires-2 (attribute-step-claims t) (attribute-step-at t) attribute-step.Post
+attribute-step-value-behind-requires-2 t c κs = (omega arith, named-within 9 _ (omega arith) (attribute-fits _ (told ((c .before .before .before .before .attribute-command-at) .ensures) ((c .before .before .command2) .given .1))) _ ((c .check-labels) .ensures))
+
+-- src/check.rt:313:47
+attribute-step-onward-requires-2 : (t : ℕ) → attribute-step-lts.Need-onward-requires-2 (attribute-step-claims t) (attribute-step-at t) attribute-step.Post
+attribute-step-onward-requires-2 t c κs = search needs
+
+-- src/check.rt:314:40
+attribute-step-enum-told : (t : ℕ) → attribute-step-lts.Need-enum-told (attribute-step-claims t) (attribute-step-at t) attribute-step.Post
+attribute-step-enum-told t c = search needs
+
+-- src/check.rt:315:82
+attribute-step-enum-told-2 : (t : ℕ) → attribute-step-lts.Need-enum-told-2 (attribute-step-claims t) (attribute-step-at t) attribute-step.Post
+attribute-step-enum-told-2 t c = search needs
+
+-- src/check.rt:315:82
+attribute-step-sub-check-properties : (t : ℕ) → attribute-step-lts.Need-sub-check-properties (attribute-step-claims t) (attribute-step-at t) attribute-step.Post
+attribute-step-sub-check-properties t c = omega (arith, attribute-fits _ (told ((c .before .before .attribute-command-at) .ensures) ((c .enum-told2) .given .1)))
+
+-- src/check.rt:315:82
+attribute-step-part-check-properties-start : (t : ℕ) → attribute-step-lts.Need-part-check-properties-start (attribute-step-claims t) (attribute-step-at t) attribute-step.Post
+attribute-step-part-check-properties-start t c = omega (arith, attribute-fits _ (told ((c .before .before .attribute-command-at) .ensures) ((c .enum-told2) .given .1)))
+
+-- src/check.rt:315:82
+attribute-step-part-check-properties-end : (t : ℕ) → attribute-step-lts.Need-part-check-properties-end (attribute-step-claims t) (attribute-step-at t) attribute-step.Post
+attribute-step-part-check-properties-end t c = search needs
+
+-- src/check.rt:315:59
+attribute-step-check-properties-requires : (t : ℕ) → attribute-step-lts.Need-check-properties-requires (attribute-step-claims t) (attribute-step-at t) attribute-step.Post
+attribute-step-check-properties-requires t c κs = search needs
+
+-- src/check.rt:315:48
+attribute-step-further-requires : (t : ℕ) → attribute-step-lts.Need-further-requires (attribute-step-claims t) (attribute-step-at t) attribute-step.Post
+attribute-step-further-requires t c κs = omega (arith, part-reach (λ f t. properties-reads f ((c .before .before .before .before .before .before .before .args) .text .now) t) 3 ((c .before .before .before .before .before .before .before .args) .tape .now) (attribute-fits _ (told ((c .before .before .before .before .attribute-command-at) .ensures) ((c .before .before .enum-told2) .given .1))) ((c .check-properties) .ensures))
+
+-- src/check.rt:315:41
+attribute-step-onward-requires-3 : (t : ℕ) → attribute-step-lts.Need-onward-requires-3 (attribute-step-claims t) (attribute-step-at t) attribute-step.Post
+attribute-step-onward-requires-3 t c κs = search needs
+
+-- src/check.rt:316:34
+attribute-step-enum-told-3 : (t : ℕ) → attribute-step-lts.Need-enum-told-3 (attribute-step-claims t) (attribute-step-at t) attribute-step.Post
+attribute-step-enum-told-3 t c = search needs
+
+-- src/check.rt:317:46
+attribute-step-enum-told-4 : (t : ℕ) → attribute-step-lts.Need-enum-told-4 (attribute-step-claims t) (attribute-step-at t) attribute-step.Post
+attribute-step-enum-told-4 t c = search needs
+
+-- src/check.rt:318:44
+attribute-step-enum-told-5 : (t : ℕ) → attribute-step-lts.Need-enum-told-5 (attribute-step-claims t) (attribute-step-at t) attribute-step.Post
+attribute-step-enum-told-5 t c = search needs
+
+-- src/check.rt:307:1
+attribute-step-returns : (t : ℕ) → attribute-step-lts.Need-returns (attribute-step-claims t) (attribute-step-at t) attribute-step.Post
+attribute-step-returns t c = attributes-plain _ _ _ _ (told ((c .before .before .before .before .before .before .attribute-command-at) .ensures) ((c .before .before .before .before .command) .given .1)) ((c .before .before .check-label) .ensures) ((c .before .value-behind) .ensures) ((c .onward) .ensures)
+
+-- src/check.rt:307:1
+attribute-step-returns-2 : (t : ℕ) → attribute-step-lts.Need-returns-2 (attribute-step-claims t) (attribute-step-at t) attribute-step.Post
+attribute-step-returns-2 t c = attributes-namespaced _ _ _ _ _ (told ((c .before .before .before .before .before .before .attribute-command-at) .ensures) ((c .before .before .before .before .command2) .given .1)) ((c .before .before .check-labels) .ensures) ((c .before .value-behind2) .ensures) ((c .onward2) .ensures)
+
+-- src/check.rt:307:1
+attribute-step-returns-3 : (t : ℕ) → attribute-step-lts.Need-returns-3 (attribute-step-claims t) (attribute-step-at t) attribute-step.Post
+attribute-step-returns-3 t c = attributes-spread _ _ _ _ (told ((c .before .before .attribute-command-at) .ensures) ((c .enum-told) .given .1))
+
+-- src/check.rt:307:1
+attribute-step-returns-4 : (t : ℕ) → attribute-step-lts.Need-returns-4 (attribute-step-claims t) (attribute-step-at t) attribute-step.Post
+attribute-step-returns-4 t c = attributes-literal _ _ _ _ (told ((c .before .before .before .before .before .before .attribute-command-at) .ensures) ((c .before .before .before .before .enum-told2) .given .1)) ((c .before .before .check-properties) .ensures) ((c .before .further) .ensures) ((c .onward3) .ensures)
+
+-- src/check.rt:307:1
+attribute-step-returns-5 : (t : ℕ) → attribute-step-lts.Need-returns-5 (attribute-step-claims t) (attribute-step-at t) attribute-step.Post
+attribute-step-returns-5 t c = attributes-end _ _ _ (told ((c .before .before .attribute-command-at) .ensures) ((c .enum-told3) .given .1))
+
+-- src/check.rt:307:1
+attribute-step-returns-6 : (t : ℕ) → attribute-step-lts.Need-returns-6 (attribute-step-claims t) (attribute-step-at t) attribute-step.Post
+attribute-step-returns-6 t c = attributes-wrong _ _ _ (told ((c .before .before .attribute-command-at) .ensures) ((c .enum-told4) .given .1))
+
+-- src/check.rt:307:1
+attribute-step-returns-7 : (t : ℕ) → attribute-step-lts.Need-returns-7 (attribute-step-claims t) (attribute-step-at t) attribute-step.Post
+attribute-step-returns-7 t c = attributes-cut _ _ _ (told ((c .before .before .attribute-command-at) .ensures) ((c .enum-told5) .given .1))
+
+abbrev check-attributes-Inv-loop : check-attributes-lts.InvT-loop
+check-attributes-Inv-loop text tape depth i₀ i = Passed (λ f. report (attributesAt f text depth tape)) (λ f t. attributesAt f text depth t) tape i
+
+abbrev check-attributes-μ-loop : check-attributes-lts.MeasureT-loop
+check-attributes-μ-loop text tape depth i₀ i = length tape - i
+
+-- src/check.rt:326:5
+check-attributes-loop-holds : (t : ℕ) → check-attributes-lts.Need-loop-holds (check-attributes-claims t) (check-attributes-at t) check-attributes.Post check-attributes-Inv-loop check-attributes-μ-loop
+check-attributes-loop-holds t c = passed-none _ _
+
+-- src/check.rt:327:41
+check-attributes-sub-attribute-step : (t : ℕ) → check-attributes-lts.Need-sub-attribute-step (check-attributes-claims t) (check-attributes-at t) check-attributes.Post check-attributes-Inv-loop check-attributes-μ-loop
+check-attributes-sub-attribute-step t c = omega (arith, (c .loop) .inv .inside)
+
+-- src/check.rt:327:41
+check-attributes-part-attribute-step-start : (t : ℕ) → check-attributes-lts.Need-part-attribute-step-start (check-attributes-claims t) (check-attributes-at t) check-attributes.Post check-attributes-Inv-loop check-attributes-μ-loop
+check-attributes-part-attribute-step-start t c = omega (arith, (c .loop) .inv .inside)
+
+-- src/check.rt:327:41
+check-attributes-part-attribute-step-end : (t : ℕ) → check-attributes-lts.Need-part-attribute-step-end (check-attributes-claims t) (check-attributes-at t) check-attributes.Post check-attributes-Inv-loop check-attributes-μ-loop
+check-attributes-part-attribute-step-end t c = search needs
+
+-- src/check.rt:327:13
+check-attributes-attribute-step-requires : (t : ℕ) → check-attributes-lts.Need-attribute-step-requires (check-attributes-claims t) (check-attributes-at t) check-attributes.Post check-attributes-Inv-loop check-attributes-μ-loop
+check-attributes-attribute-step-requires t c κs = omega (arith, part-length ((c .before .loop) .i) ((c .before .before .before .before .args) .tape .now))
+
+-- src/check.rt:329:24
+check-attributes-enum-known-step : (t : ℕ) → check-attributes-lts.Need-enum-known-step (check-attributes-claims t) (check-attributes-at t) check-attributes.Post check-attributes-Inv-loop check-attributes-μ-loop
+check-attributes-enum-known-step t c = search needs
+
+-- src/check.rt:330:21
+check-attributes-add-i : (t : ℕ) → check-attributes-lts.Need-add-i (check-attributes-claims t) (check-attributes-at t) check-attributes.Post check-attributes-Inv-loop check-attributes-μ-loop
+check-attributes-add-i t c = omega (arith, passed-next ((c .before .before .before .before .before .loop) .inv) ((c .before .before .before .attribute-step) .ensures) ((c .before .step) .given .1) .inside)
+
+-- src/check.rt:326:5
+check-attributes-loop-less : (t : ℕ) → check-attributes-lts.Need-loop-less (check-attributes-claims t) (check-attributes-at t) check-attributes.Post check-attributes-Inv-loop check-attributes-μ-loop
+check-attributes-loop-less t c = next-less ((c .before .before .before .before .before .loop) .inv) ((c .before .before .before .attribute-step) .ensures) ((c .before .step) .given .1)
+
+-- src/check.rt:326:5
+check-attributes-loop-again : (t : ℕ) → check-attributes-lts.Need-loop-again (check-attributes-claims t) (check-attributes-at t) check-attributes.Post check-attributes-Inv-loop check-attributes-μ-loop
+check-attributes-loop-again t c = passed-next ((c .before .before .before .before .before .loop) .inv) ((c .before .before .before .attribute-step) .ensures) ((c .before .step) .given .1)
+
+-- src/check.rt:332:23
+check-attributes-enum-known-step-2 : (t : ℕ) → check-attributes-lts.Need-enum-known-step-2 (check-attributes-claims t) (check-attributes-at t) check-attributes.Post check-attributes-Inv-loop check-attributes-μ-loop
+check-attributes-enum-known-step-2 t c = search needs
+
+-- src/check.rt:333:35
+check-attributes-add-t14 : (t : ℕ) → check-attributes-lts.Need-add-t14 (check-attributes-claims t) (check-attributes-at t) check-attributes.Post check-attributes-Inv-loop check-attributes-μ-loop
+check-attributes-add-t14 t c = omega (arith, end-inside ((c .before .before .before .before .before .loop) .inv) ((c .before .before .before .attribute-step) .ensures) ((c .before .step2) .given .1))
+
+-- src/check.rt:333:17
+check-attributes-returns : (t : ℕ) → check-attributes-lts.Need-returns (check-attributes-claims t) (check-attributes-at t) check-attributes.Post check-attributes-Inv-loop check-attributes-μ-loop
+check-attributes-returns t c = record { tells = passed-end ((c .before .before .before .before .before .loop) .inv) ((c .before .before .before .attribute-step) .ensures) ((c .before .step2) .given .1) }
+
+-- src/check.rt:335:23
+check-attributes-enum-known-step-3 : (t : ℕ) → check-attributes-lts.Need-enum-known-step-3 (check-attributes-claims t) (check-attributes-at t) check-attributes.Post check-attributes-Inv-loop check-attributes-μ-loop
+check-attributes-enum-known-step-3 t c = search needs
+
+-- src/check.rt:336:37
+check-attributes-add-t15 : (t : ℕ) → check-attributes-lts.Need-add-t15 (check-attributes-claims t) (check-attributes-at t) check-attributes.Post check-attributes-Inv-loop check-attributes-μ-loop
+check-attributes-add-t15 t c = omega (arith, bad-inside ((c .before .before .before .before .before .loop) .inv) ((c .before .before .before .attribute-step) .ensures) ((c .before .step3) .given .1))
+
+-- src/check.rt:336:17
+check-attributes-returns-2 : (t : ℕ) → check-attributes-lts.Need-returns-2 (check-attributes-claims t) (check-attributes-at t) check-attributes.Post check-attributes-Inv-loop check-attributes-μ-loop
+check-attributes-returns-2 t c = record { tells = passed-bad ((c .before .before .before .before .before .loop) .inv) ((c .before .before .before .attribute-step) .ensures) ((c .before .step3) .given .1) }
+
+abbrev check-children-Inv-loop : check-children-lts.InvT-loop
+check-children-Inv-loop text tape depth i₀ i = Passed (λ f. report (childrenAt f text depth tape)) (λ f t. childrenAt f text depth t) tape i
+
+abbrev check-children-μ-loop : check-children-lts.MeasureT-loop
+check-children-μ-loop text tape depth i₀ i = length tape - i
+
+-- src/check.rt:390:5
+check-children-loop-holds : (t : ℕ) → check-children-lts.Need-loop-holds (check-children-claims t) (check-children-at t) check-children.Post check-children-Inv-loop check-children-μ-loop
+check-children-loop-holds t c = passed-none _ _
+
+-- src/check.rt:391:37
+check-children-sub-child-step : (t : ℕ) → check-children-lts.Need-sub-child-step (check-children-claims t) (check-children-at t) check-children.Post check-children-Inv-loop check-children-μ-loop
+check-children-sub-child-step t c = omega (arith, (c .loop) .inv .inside)
+
+-- src/check.rt:391:37
+check-children-part-child-step-start : (t : ℕ) → check-children-lts.Need-part-child-step-start (check-children-claims t) (check-children-at t) check-children.Post check-children-Inv-loop check-children-μ-loop
+check-children-part-child-step-start t c = omega (arith, (c .loop) .inv .inside)
+
+-- src/check.rt:391:37
+check-children-part-child-step-end : (t : ℕ) → check-children-lts.Need-part-child-step-end (check-children-claims t) (check-children-at t) check-children.Post check-children-Inv-loop check-children-μ-loop
+check-children-part-child-step-end t c = search needs
+
+-- src/check.rt:391:13
+check-children-child-step-requires : (t : ℕ) → check-children-lts.Need-child-step-requires (check-children-claims t) (check-children-at t) check-children.Post check-children-Inv-loop check-children-μ-loop
+check-children-child-step-requires t c κs = omega (arith, part-length ((c .before .loop) .i) ((c .before .before .before .before .args) .tape .now))
+
+-- src/check.rt:393:24
+check-children-enum-known-step : (t : ℕ) → check-children-lts.Need-enum-known-step (check-children-claims t) (check-children-at t) check-children.Post check-children-Inv-loop check-children-μ-loop
+check-children-enum-known-step t c = search needs
+
+-- src/check.rt:394:21
+check-children-add-i : (t : ℕ) → check-children-lts.Need-add-i (check-children-claims t) (check-children-at t) check-children.Post check-children-Inv-loop check-children-μ-loop
+check-children-add-i t c = omega (arith, passed-next ((c .before .before .before .before .before .loop) .inv) ((c .before .before .before .child-step) .ensures) ((c .before .step) .given .1) .inside)
+
+-- src/check.rt:390:5
+check-children-loop-less : (t : ℕ) → check-children-lts.Need-loop-less (check-children-claims t) (check-children-at t) check-children.Post check-children-Inv-loop check-children-μ-loop
+check-children-loop-less t c = next-less ((c .before .before .before .before .before .loop) .inv) ((c .before .before .before .child-step) .ensures) ((c .before .step) .given .1)
+
+-- src/check.rt:390:5
+check-children-loop-again : (t : ℕ) → check-children-lts.Need-loop-again (check-children-claims t) (check-children-at t) check-children.Post check-children-Inv-loop check-children-μ-loop
+check-children-loop-again t c = passed-next ((c .before .before .before .before .before .loop) .inv) ((c .before .before .before .child-step) .ensures) ((c .before .step) .given .1)
+
+-- src/check.rt:396:23
+check-children-enum-known-step-2 : (t : ℕ) → check-children-lts.Need-enum-known-step-2 (check-children-claims t) (check-children-at t) check-children.Post check-children-Inv-loop check-children-μ-loop
+check-children-enum-known-step-2 t c = search needs
+
+-- src/check.rt:397:35
+check-children-add-t14 : (t : ℕ) → check-children-lts.Need-add-t14 (check-children-claims t) (check-children-at t) check-children.Post check-children-Inv-loop check-children-μ-loop
+check-children-add-t14 t c = omega (arith, end-inside ((c .before .before .before .before .before .loop) .inv) ((c .before .before .before .child-step) .ensures) ((c .before .step2) .given .1))
+
+-- src/check.rt:397:17
+check-children-returns : (t : ℕ) → check-children-lts.Need-returns (check-children-claims t) (check-children-at t) check-children.Post check-children-Inv-loop check-children-μ-loop
+check-children-returns t c = record { tells = passed-end ((c .before .before .before .before .before .loop) .inv) ((c .before .before .before .child-step) .ensures) ((c .before .step2) .given .1) }
+
+-- src/check.rt:399:23
+check-children-enum-known-step-3 : (t : ℕ) → check-children-lts.Need-enum-known-step-3 (check-children-claims t) (check-children-at t) check-children.Post check-children-Inv-loop check-children-μ-loop
+check-children-enum-known-step-3 t c = search needs
+
+-- src/check.rt:400:37
+check-children-add-t15 : (t : ℕ) → check-children-lts.Need-add-t15 (check-children-claims t) (check-children-at t) check-children.Post check-children-Inv-loop check-children-μ-loop
+check-children-add-t15 t c = omega (arith, bad-inside ((c .before .before .before .before .before .loop) .inv) ((c .before .before .before .child-step) .ensures) ((c .before .step3) .given .1))
+
+-- src/check.rt:400:17
+check-children-returns-2 : (t : ℕ) → check-children-lts.Need-returns-2 (check-children-claims t) (check-children-at t) check-children.Post check-children-Inv-loop check-children-μ-loop
+check-children-returns-2 t c = record { tells = passed-bad ((c .before .before .before .before .before .loop) .inv) ((c .before .before .before .child-step) .ensures) ((c .before .step3) .given .1) }
+
+-- src/check.rt:296:9
+check-element-check-name-requires : (t : ℕ) → check-element-lts.Need-check-name-requires (check-element-claims t) (check-element-at t) check-element.Post
+check-element-check-name-requires t c κs = search needs
+
+-- src/check.rt:297:20
+check-element-enum-known-name : (t : ℕ) → check-element-lts.Need-enum-known-name (check-element-claims t) (check-element-at t) check-element.Post
+check-element-enum-known-name t c = search needs
+
+-- src/check.rt:298:9
+check-element-enum-told : (t : ℕ) → check-element-lts.Need-enum-told (check-element-claims t) (check-element-at t) check-element.Post
+check-element-enum-told t c = search needs
+
+-- src/check.rt:298:9
+check-element-returns : (t : ℕ) → check-element-lts.Need-returns (check-element-claims t) (check-element-at t) check-element.Post
+check-element-returns t c = element-no-name _ _ _ ((c .before .before .check-name) .ensures) ((c .enum-told) .given .1)
+
+-- src/check.rt:300:56
+check-element-sub-check-attributes : (t : ℕ) → check-element-lts.Need-sub-check-attributes (check-element-claims t) (check-element-at t) check-element.Post
+check-element-sub-check-attributes t c = omega (arith, check-element-named t (c))
+
+-- src/check.rt:300:56
+check-element-part-check-attributes-start : (t : ℕ) → check-element-lts.Need-part-check-attributes-start (check-element-claims t) (check-element-at t) check-element.Post
+check-element-part-check-attributes-start t c = omega (arith, check-element-named t (c))
+
+-- src/check.rt:300:56
+check-element-part-check-attributes-end : (t : ℕ) → check-element-lts.Need-part-check-attributes-end (check-element-claims t) (check-element-at t) check-element.Post
+check-element-part-check-attributes-end t c = search needs
+
+-- src/check.rt:300:68
+check-element-add-check-attributes : (t : ℕ) → check-element-lts.Need-add-check-attributes (check-element-claims t) (check-element-at t) check-element.Post
+check-element-add-check-attributes t c = search needs
+
+-- src/check.rt:300:33
+check-element-check-attributes-requires : (t : ℕ) → check-element-lts.Need-check-attributes-requires (check-element-claims t) (check-element-at t) check-element.Post
+check-element-check-attributes-requires t c κs = omega (arith, part-length ((c .before .before .name) .given .0 .0) ((c .before .before .before .before .before .before .before .args) .tape .now))
+
+-- src/check.rt:300:9
+check-element-further-requires : (t : ℕ) → check-element-lts.Need-further-requires (check-element-claims t) (check-element-at t) check-element.Post
+check-element-further-requires t c κs = omega (arith, part-reach (λ f t. attributes-reads f ((c .before .before .before .before .before .before .before .before .args) .text .now) ((c .before .before .before .before .before .before .before .before .args) .depth + 1) t) ((c .before .before .before .name) .given .0 .0) ((c .before .before .before .before .before .before .before .before .args) .tape .now) (check-element-named t ((c .before .before)) .1) ((c .check-attributes) .ensures))
+
+-- src/check.rt:301:20
+check-element-enum-known-attributes : (t : ℕ) → check-element-lts.Need-enum-known-attributes (check-element-claims t) (check-element-at t) check-element.Post
+check-element-enum-known-attributes t c = search needs
+
+-- src/check.rt:302:9
+check-element-enum-told-2 : (t : ℕ) → check-element-lts.Need-enum-told-2 (check-element-claims t) (check-element-at t) check-element.Post
+check-element-enum-told-2 t c = search needs
+
+-- src/check.rt:302:9
+check-element-returns-2 : (t : ℕ) → check-element-lts.Need-returns-2 (check-element-claims t) (check-element-at t) check-element.Post
+check-element-returns-2 t c = element-no-attributes _ _ _ ((c .before .before .before .before .before .before .before .before .check-name) .ensures) ((c .before .before .before .before .before .before .name) .given .1) (check-element-named t ((c .before .before .before .before .before)) .1) ((c .before .before .before .check-attributes) .ensures) ((c .before .before .further) .ensures) ((c .enum-told2) .given .1)
+
+-- src/check.rt:304:37
+check-element-sub-check-children : (t : ℕ) → check-element-lts.Need-sub-check-children (check-element-claims t) (check-element-at t) check-element.Post
+check-element-sub-check-children t c = omega (arith, check-element-attributed t (c))
+
+-- src/check.rt:304:37
+check-element-part-check-children-start : (t : ℕ) → check-element-lts.Need-part-check-children-start (check-element-claims t) (check-element-at t) check-element.Post
+check-element-part-check-children-start t c = omega (arith, check-element-attributed t (c))
+
+-- src/check.rt:304:37
+check-element-part-check-children-end : (t : ℕ) → check-element-lts.Need-part-check-children-end (check-element-claims t) (check-element-at t) check-element.Post
+check-element-part-check-children-end t c = search needs
+
+-- src/check.rt:304:49
+check-element-add-check-children : (t : ℕ) → check-element-lts.Need-add-check-children (check-element-claims t) (check-element-at t) check-element.Post
+check-element-add-check-children t c = search needs
+
+-- src/check.rt:304:16
+check-element-check-children-requires : (t : ℕ) → check-element-lts.Need-check-children-requires (check-element-claims t) (check-element-at t) check-element.Post
+check-element-check-children-requires t c κs = omega (arith, part-length ((c .before .before .attributes) .given .0 .0) ((c .before .before .before .before .before .before .before .before .before .before .before .before .before .args) .tape .now))
+
+-- src/check.rt:304:5
+check-element-further-requires-2 : (t : ℕ) → check-element-lts.Need-further-requires-2 (check-element-claims t) (check-element-at t) check-element.Post
+check-element-further-requires-2 t c κs = omega (arith, part-reach (λ f t. children-reads f ((c .before .before .before .before .before .before .before .before .before .before .before .before .before .before .args) .text .now) ((c .before .before .before .before .before .before .before .before .before .before .before .before .before .before .args) .depth + 1) t) ((c .before .before .before .attributes) .given .0 .0) ((c .before .before .before .before .before .before .before .before .before .before .before .before .before .before .args) .tape .now) (check-element-attributed t ((c .before .before)) .1) ((c .check-children) .ensures))
+
+-- src/check.rt:292:1
+check-element-returns-3 : (t : ℕ) → check-element-lts.Need-returns-3 (check-element-claims t) (check-element-at t) check-element.Post
+check-element-returns-3 t c = element-whole _ _ _ ((c .before .before .before .before .before .before .before .before .before .before .before .before .check-name) .ensures) ((c .before .before .before .before .before .before .before .before .before .before .name) .given .1) (check-element-named t ((c .before .before .before .before .before .before .before .before .before)) .1) ((c .before .before .before .before .before .before .before .check-attributes) .ensures) ((c .before .before .before .before .before .before .further) .ensures) ((c .before .before .before .before .attributes) .given .1) (check-element-attributed t ((c .before .before .before)) .1) ((c .before .check-children) .ensures) ((c .further2) .ensures)
+
+-- src/check.rt:356:9
+check-value-value-command-at-requires : (t : ℕ) → check-value-lts.Need-value-command-at-requires (check-value-claims t) (check-value-at t) check-value.Post
+check-value-value-command-at-requires t c κs = search needs
+
+-- src/check.rt:358:33
+check-value-enum-told : (t : ℕ) → check-value-lts.Need-enum-told (check-value-claims t) (check-value-at t) check-value.Post
+check-value-enum-told t c = search needs
+
+-- src/check.rt:359:28
+check-value-enum-known-command : (t : ℕ) → check-value-lts.Need-enum-known-command (check-value-claims t) (check-value-at t) check-value.Post
+check-value-enum-known-command t c = search needs
+
+-- src/check.rt:359:34
+check-value-check-text-requires : (t : ℕ) → check-value-lts.Need-check-text-requires (check-value-claims t) (check-value-at t) check-value.Post
+check-value-check-text-requires t c κs = search needs
+
+-- src/check.rt:360:40
+check-value-enum-told-2 : (t : ℕ) → check-value-lts.Need-enum-told-2 (check-value-claims t) (check-value-at t) check-value.Post
+check-value-enum-told-2 t c = search needs
+
+-- src/check.rt:361:32
+check-value-enum-told-3 : (t : ℕ) → check-value-lts.Need-enum-told-3 (check-value-claims t) (check-value-at t) check-value.Post
+check-value-enum-told-3 t c = search needs
+
+-- src/check.rt:362:31
+check-value-enum-known-command-2 : (t : ℕ) → check-value-lts.Need-enum-known-command-2 (check-value-claims t) (check-value-at t) check-value.Post
+check-value-enum-known-command-2 t c = search needs
+
+-- src/check.rt:362:37
+check-value-open-element-requires : (t : ℕ) → check-value-lts.Need-open-element-requires (check-value-claims t) (check-value-at t) check-value.Post
+check-value-open-element-requires t c κs = (omega arith, value-fits _ (told ((c .before .before .before .value-command-at) .ensures) ((c .before .command2) .given .1)))
+
+-- src/check.rt:363:32
+check-value-enum-known-command-3 : (t : ℕ) → check-value-lts.Need-enum-known-command-3 (check-value-claims t) (check-value-at t) check-value.Post
+check-value-enum-known-command-3 t c = search needs
+
+-- src/check.rt:363:38
+check-value-open-fragment-requires : (t : ℕ) → check-value-lts.Need-open-fragment-requires (check-value-claims t) (check-value-at t) check-value.Post
+check-value-open-fragment-requires t c κs = (omega arith, value-fits _ (told ((c .before .before .before .value-command-at) .ensures) ((c .before .command3) .given .1)))
+
+-- src/check.rt:364:42
+check-value-enum-told-4 : (t : ℕ) → check-value-lts.Need-enum-told-4 (check-value-claims t) (check-value-at t) check-value.Post
+check-value-enum-told-4 t c = search needs
+
+-- src/check.rt:365:40
+check-value-enum-told-5 : (t : ℕ) → check-value-lts.Need-enum-told-5 (check-value-claims t) (check-value-at t) check-value.Post
+check-value-enum-told-5 t c = search needs
+
+-- src/check.rt:353:1
+check-value-returns : (t : ℕ) → check-value-lts.Need-returns (check-value-claims t) (check-value-at t) check-value.Post
+check-value-returns t c = value-absent _ _ _ (told ((c .before .before .value-command-at) .ensures) ((c .enum-told) .given .1))
+
+-- src/check.rt:353:1
+check-value-returns-2 : (t : ℕ) → check-value-lts.Need-returns-2 (check-value-claims t) (check-value-at t) check-value.Post
+check-value-returns-2 t c = value-text _ _ _ _ (told ((c .before .before .before .before .value-command-at) .ensures) ((c .before .before .command) .given .1)) ((c .check-text) .ensures)
+
+-- src/check.rt:353:1
+check-value-returns-3 : (t : ℕ) → check-value-lts.Need-returns-3 (check-value-claims t) (check-value-at t) check-value.Post
+check-value-returns-3 t c = value-expression _ _ _ _ (told ((c .before .before .value-command-at) .ensures) ((c .enum-told2) .given .1))
+
+-- src/check.rt:353:1
+check-value-returns-4 : (t : ℕ) → check-value-lts.Need-returns-4 (check-value-claims t) (check-value-at t) check-value.Post
+check-value-returns-4 t c = value-empty _ _ _ (told ((c .before .before .value-command-at) .ensures) ((c .enum-told3) .given .1))
+
+-- src/check.rt:353:1
+check-value-returns-5 : (t : ℕ) → check-value-lts.Need-returns-5 (check-value-claims t) (check-value-at t) check-value.Post
+check-value-returns-5 t c = value-element _ _ _ _ (told ((c .before .before .before .before .value-command-at) .ensures) ((c .before .before .command2) .given .1)) ((c .open-element) .ensures)
+
+-- src/check.rt:353:1
+check-value-returns-6 : (t : ℕ) → check-value-lts.Need-returns-6 (check-value-claims t) (check-value-at t) check-value.Post
+check-value-returns-6 t c = value-fragment _ _ _ _ (told ((c .before .before .before .before .value-command-at) .ensures) ((c .before .before .command3) .given .1)) ((c .open-fragment) .ensures)
+
+-- src/check.rt:353:1
+check-value-returns-7 : (t : ℕ) → check-value-lts.Need-returns-7 (check-value-claims t) (check-value-at t) check-value.Post
+check-value-returns-7 t c = value-wrong _ _ _ (told ((c .before .before .value-command-at) .ensures) ((c .enum-told4) .given .1))
+
+-- src/check.rt:353:1
+check-value-returns-8 : (t : ℕ) → check-value-lts.Need-returns-8 (check-value-claims t) (check-value-at t) check-value.Post
+check-value-returns-8 t c = value-cut _ _ _ (told ((c .before .before .value-command-at) .ensures) ((c .enum-told5) .given .1))
+
+-- src/check.rt:372:9
+child-step-child-command-at-requires : (t : ℕ) → child-step-lts.Need-child-command-at-requires (child-step-claims t) (child-step-at t) child-step.Post
+child-step-child-command-at-requires t c κs = search needs
+
+-- src/check.rt:374:28
+child-step-enum-known-command : (t : ℕ) → child-step-lts.Need-enum-known-command (child-step-claims t) (child-step-at t) child-step.Post
+child-step-enum-known-command t c = search needs
+
+-- src/check.rt:374:41
+child-step-check-text-requires : (t : ℕ) → child-step-lts.Need-check-text-requires (child-step-claims t) (child-step-at t) child-step.Post
+child-step-check-text-requires t c κs = search needs
+
+-- src/check.rt:374:34
+child-step-onward-requires : (t : ℕ) → child-step-lts.Need-onward-requires (child-step-claims t) (child-step-at t) child-step.Post
+child-step-onward-requires t c κs = search needs
+
+-- src/check.rt:375:40
+child-step-enum-told : (t : ℕ) → child-step-lts.Need-enum-told (child-step-claims t) (child-step-at t) child-step.Post
+child-step-enum-told t c = search needs
+
+-- src/check.rt:376:32
+child-step-enum-told-2 : (t : ℕ) → child-step-lts.Need-enum-told-2 (child-step-claims t) (child-step-at t) child-step.Post
+child-step-enum-told-2 t c = search needs
+
+-- src/check.rt:377:36
+child-step-enum-told-3 : (t : ℕ) → child-step-lts.Need-enum-told-3 (child-step-claims t) (child-step-at t) child-step.Post
+child-step-enum-told-3 t c = search needs
+
+-- src/check.rt:378:31
+child-step-enum-known-command-2 : (t : ℕ) → child-step-lts.Need-enum-known-command-2 (child-step-claims t) (child-step-at t) child-step.Post
+child-step-enum-known-command-2 t c = search needs
+
+-- src/check.rt:378:44
+child-step-open-element-requires : (t : ℕ) → child-step-lts.Need-open-element-requires (child-step-claims t) (child-step-at t) child-step.Post
+child-step-open-element-requires t c κs = (omega arith, child-fits _ (told ((c .before .before .before .child-command-at) .ensures) ((c .before .command2) .given .1)))
+
+-- src/check.rt:378:37
+child-step-onward-requires-2 : (t : ℕ) → child-step-lts.Need-onward-requires-2 (child-step-claims t) (child-step-at t) child-step.Post
+child-step-onward-requires-2 t c κs = search needs
+
+-- src/check.rt:379:32
+child-step-enum-known-command-3 : (t : ℕ) → child-step-lts.Need-enum-known-command-3 (child-step-claims t) (child-step-at t) child-step.Post
+child-step-enum-known-command-3 t c = search needs
+
+-- src/check.rt:379:45
+child-step-open-fragment-requires : (t : ℕ) → child-step-lts.Need-open-fragment-requires (child-step-claims t) (child-step-at t) child-step.Post
+child-step-open-fragment-requires t c κs = (omega arith, child-fits _ (told ((c .before .before .before .child-command-at) .ensures) ((c .before .command3) .given .1)))
+
+-- src/check.rt:379:38
+child-step-onward-requires-3 : (t : ℕ) → child-step-lts.Need-onward-requires-3 (child-step-claims t) (child-step-at t) child-step.Post
+child-step-onward-requires-3 t c κs = search needs
+
+-- src/check.rt:380:30
+child-step-enum-told-4 : (t : ℕ) → child-step-lts.Need-enum-told-4 (child-step-claims t) (child-step-at t) child-step.Post
+child-step-enum-told-4 t c = search needs
+
+-- src/check.rt:381:42
+child-step-enum-told-5 : (t : ℕ) → child-step-lts.Need-enum-told-5 (child-step-claims t) (child-step-at t) child-step.Post
+child-step-enum-told-5 t c = search needs
+
+-- src/check.rt:382:40
+child-step-enum-told-6 : (t : ℕ) → child-step-lts.Need-enum-told-6 (child-step-claims t) (child-step-at t) child-step.Post
+child-step-enum-told-6 t c = search needs
+
+-- src/check.rt:369:1
+child-step-returns : (t : ℕ) → child-step-lts.Need-returns (child-step-claims t) (child-step-at t) child-step.Post
+child-step-returns t c = children-text _ _ _ _ (told ((c .before .before .before .before .before .child-command-at) .ensures) ((c .before .before .before .command) .given .1)) ((c .before .check-text) .ensures) ((c .onward) .ensures)
+
+-- src/check.rt:369:1
+child-step-returns-2 : (t : ℕ) → child-step-lts.Need-returns-2 (child-step-claims t) (child-step-at t) child-step.Post
+child-step-returns-2 t c = children-expression _ _ _ _ (told ((c .before .before .child-command-at) .ensures) ((c .enum-told) .given .1))
+
+-- src/check.rt:369:1
+child-step-returns-3 : (t : ℕ) → child-step-lts.Need-returns-3 (child-step-claims t) (child-step-at t) child-step.Post
+child-step-returns-3 t c = children-empty _ _ _ (told ((c .before .before .child-command-at) .ensures) ((c .enum-told2) .given .1))
+
+-- src/check.rt:369:1
+child-step-returns-4 : (t : ℕ) → child-step-lts.Need-returns-4 (child-step-claims t) (child-step-at t) child-step.Post
+child-step-returns-4 t c = children-spread _ _ _ _ (told ((c .before .before .child-command-at) .ensures) ((c .enum-told3) .given .1))
+
+-- src/check.rt:369:1
+child-step-returns-5 : (t : ℕ) → child-step-lts.Need-returns-5 (child-step-claims t) (child-step-at t) child-step.Post
+child-step-returns-5 t c = children-element _ _ _ _ (told ((c .before .before .before .before .before .child-command-at) .ensures) ((c .before .before .before .command2) .given .1)) ((c .before .open-element) .ensures) ((c .onward2) .ensures)
+
+-- src/check.rt:369:1
+child-step-returns-6 : (t : ℕ) → child-step-lts.Need-returns-6 (child-step-claims t) (child-step-at t) child-step.Post
+child-step-returns-6 t c = children-fragment _ _ _ _ (told ((c .before .before .before .before .before .child-command-at) .ensures) ((c .before .before .before .command3) .given .1)) ((c .before .open-fragment) .ensures) ((c .onward3) .ensures)
+
+-- src/check.rt:369:1
+child-step-returns-7 : (t : ℕ) → child-step-lts.Need-returns-7 (child-step-claims t) (child-step-at t) child-step.Post
+child-step-returns-7 t c = children-end _ _ _ (told ((c .before .before .child-command-at) .ensures) ((c .enum-told4) .given .1))
+
+-- src/check.rt:369:1
+child-step-returns-8 : (t : ℕ) → child-step-lts.Need-returns-8 (child-step-claims t) (child-step-at t) child-step.Post
+child-step-returns-8 t c = children-wrong _ _ _ (told ((c .before .before .child-command-at) .ensures) ((c .enum-told5) .given .1))
+
+-- src/check.rt:369:1
+child-step-returns-9 : (t : ℕ) → child-step-lts.Need-returns-9 (child-step-claims t) (child-step-at t) child-step.Post
+child-step-returns-9 t c = children-cut _ _ _ (told ((c .before .before .child-command-at) .ensures) ((c .enum-told6) .given .1))
+
+-- src/check.rt:272:9
+open-element-check-place-requires : (t : ℕ) → open-element-lts.Need-check-place-requires (open-element-claims t) (open-element-at t) open-element.Post
+open-element-check-place-requires t c κs = search needs
+
+open-element-enum-told : (t : ℕ) → open-element-lts.Need-enum-told (open-element-claims t) (open-element-at t) open-element.Post
+open-element-enum-told t c = search needs
+
+-- src/check.rt:274:9
+open-element-enum-told-2 : (t : ℕ) → open-element-lts.Need-enum-told-2 (open-element-claims t) (open-element-at t) open-element.Post
+open-element-enum-told-2 t c = search needs
+
+-- src/check.rt:274:9
+open-element-returns : (t : ℕ) → open-element-lts.Need-returns (open-element-claims t) (open-element-at t) open-element.Post
+open-element-returns t c = opens-bad _ _ _ ((c .before .before .check-place) .ensures) _ _ _ ((c .enum-told2) .given .1)
+
+-- src/check.rt:276:36
+open-element-sub-check-element : (t : ℕ) → open-element-lts.Need-sub-check-element (open-element-claims t) (open-element-at t) open-element.Post
+open-element-sub-check-element t c = search needs
+
+-- src/check.rt:276:36
+open-element-part-check-element-start : (t : ℕ) → open-element-lts.Need-part-check-element-start (open-element-claims t) (open-element-at t) open-element.Post
+open-element-part-check-element-start t c = search needs
+
+-- src/check.rt:276:36
+open-element-part-check-element-end : (t : ℕ) → open-element-lts.Need-part-check-element-end (open-element-claims t) (open-element-at t) open-element.Post
+open-element-part-check-element-end t c = search needs
+
+-- src/check.rt:276:16
+open-element-check-element-requires : (t : ℕ) → open-element-lts.Need-check-element-requires (open-element-claims t) (open-element-at t) open-element.Post
+open-element-check-element-requires t c κs = (omega (arith, part-length 9 ((c .before .before .before .before .before .before .args) .tape .now)), opened-shallow _ _ _ (told ((c .before .before .before .check-place) .ensures) ((c .before .enum-told) .given .1)))
+
+-- src/check.rt:276:5
+open-element-further-requires : (t : ℕ) → open-element-lts.Need-further-requires (open-element-claims t) (open-element-at t) open-element.Post
+open-element-further-requires t c κs = omega (arith, element-reach ((c .before .before .before .before .before .before .before .args) .text .now) ((c .before .before .before .before .before .before .before .args) .tape .now) ((c .before .before .before .before .before .before .before .args) .depth) 9 ((c .before .before .before .before .before .before .before .pre) .1) ((c .check-element) .ensures))
+
+-- src/check.rt:268:1
+open-element-returns-2 : (t : ℕ) → open-element-lts.Need-returns-2 (open-element-claims t) (open-element-at t) open-element.Post
+open-element-returns-2 t c = opens-element _ _ _ ((c .before .before .before .before .before .check-place) .ensures) _ _ ((c .before .before .before .enum-told) .given .1) ((c .before .before .before .before .before .before .before .before .pre) .1) ((c .before .check-element) .ensures) ((c .further) .ensures)
+
+-- src/check.rt:284:9
+open-fragment-check-place-requires : (t : ℕ) → open-fragment-lts.Need-check-place-requires (open-fragment-claims t) (open-fragment-at t) open-fragment.Post
+open-fragment-check-place-requires t c κs = search needs
+
+open-fragment-enum-told : (t : ℕ) → open-fragment-lts.Need-enum-told (open-fragment-claims t) (open-fragment-at t) open-fragment.Post
+open-fragment-enum-told t c = search needs
+
+-- src/check.rt:286:9
+open-fragment-enum-told-2 : (t : ℕ) → open-fragment-lts.Need-enum-told-2 (open-fragment-claims t) (open-fragment-at t) open-fragment.Post
+open-fragment-enum-told-2 t c = search needs
+
+-- src/check.rt:286:9
+open-fragment-returns : (t : ℕ) → open-fragment-lts.Need-returns (open-fragment-claims t) (open-fragment-at t) open-fragment.Post
+open-fragment-returns t c = opens-bad _ _ _ ((c .before .before .check-place) .ensures) _ _ _ ((c .enum-told2) .given .1)
+
+-- src/check.rt:288:37
+open-fragment-sub-check-children : (t : ℕ) → open-fragment-lts.Need-sub-check-children (open-fragment-claims t) (open-fragment-at t) open-fragment.Post
+open-fragment-sub-check-children t c = search needs
+
+-- src/check.rt:288:37
+open-fragment-part-check-children-start : (t : ℕ) → open-fragment-lts.Need-part-check-children-start (open-fragment-claims t) (open-fragment-at t) open-fragment.Post
+open-fragment-part-check-children-start t c = search needs
+
+-- src/check.rt:288:37
+open-fragment-part-check-children-end : (t : ℕ) → open-fragment-lts.Need-part-check-children-end (open-fragment-claims t) (open-fragment-at t) open-fragment.Post
+open-fragment-part-check-children-end t c = search needs
+
+-- src/check.rt:288:49
+open-fragment-add-check-children : (t : ℕ) → open-fragment-lts.Need-add-check-children (open-fragment-claims t) (open-fragment-at t) open-fragment.Post
+open-fragment-add-check-children t c = omega (arith, opened-shallow _ _ _ (told ((c .before .before .before .check-place) .ensures) ((c .before .enum-told) .given .1)))
+
+-- src/check.rt:288:16
+open-fragment-check-children-requires : (t : ℕ) → open-fragment-lts.Need-check-children-requires (open-fragment-claims t) (open-fragment-at t) open-fragment.Post
+open-fragment-check-children-requires t c κs = omega (arith, part-length 9 ((c .before .before .before .before .before .before .args) .tape .now))
+
+-- src/check.rt:288:5
+open-fragment-further-requires : (t : ℕ) → open-fragment-lts.Need-further-requires (open-fragment-claims t) (open-fragment-at t) open-fragment.Post
+open-fragment-further-requires t c κs = omega (arith, part-reach (λ f t. children-reads f ((c .before .before .before .before .before .before .before .args) .text .now) ((c .before .before .before .before .before .before .before .args) .depth + 1) t) 9 ((c .before .before .before .before .before .before .before .args) .tape .now) ((c .before .before .before .before .before .before .before .pre) .1) ((c .check-children) .ensures))
+
+-- src/check.rt:280:1
+open-fragment-returns-2 : (t : ℕ) → open-fragment-lts.Need-returns-2 (open-fragment-claims t) (open-fragment-at t) open-fragment.Post
+open-fragment-returns-2 t c = opens-fragment _ _ _ ((c .before .before .before .before .before .check-place) .ensures) _ _ ((c .before .before .before .enum-told) .given .1) ((c .before .before .before .before .before .before .before .before .pre) .1) ((c .before .check-children) .ensures) ((c .further) .ensures)
+
+-- src/check.rt:347:20
+value-behind-enum-known-front : (t : ℕ) → value-behind-lts.Need-enum-known-front (value-behind-claims t) (value-behind-at t) value-behind.Post
+value-behind-enum-known-front t c = search needs
+
+-- src/check.rt:348:9
+value-behind-enum-told : (t : ℕ) → value-behind-lts.Need-enum-told (value-behind-claims t) (value-behind-at t) value-behind.Post
+value-behind-enum-told t c = search needs
+
+-- src/check.rt:348:9
+value-behind-returns : (t : ℕ) → value-behind-lts.Need-returns (value-behind-claims t) (value-behind-at t) value-behind.Post
+value-behind-returns t c = behind-bad _ ((c .enum-told) .given .1)
+
+-- src/check.rt:350:34
+value-behind-sub-check-value : (t : ℕ) → value-behind-lts.Need-sub-check-value (value-behind-claims t) (value-behind-at t) value-behind.Post
+value-behind-sub-check-value t c = omega (arith, within-good ((c .before .front) .given .1) ((c .before .before .before .before .before .pre) .1))
+
+-- src/check.rt:350:34
+value-behind-part-check-value-start : (t : ℕ) → value-behind-lts.Need-part-check-value-start (value-behind-claims t) (value-behind-at t) value-behind.Post
+value-behind-part-check-value-start t c = omega (arith, within-good ((c .before .front) .given .1) ((c .before .before .before .before .before .pre) .1))
+
+-- src/check.rt:350:34
+value-behind-part-check-value-end : (t : ℕ) → value-behind-lts.Need-part-check-value-end (value-behind-claims t) (value-behind-at t) value-behind.Post
+value-behind-part-check-value-end t c = search needs
+
+-- src/check.rt:350:16
+value-behind-check-value-requires : (t : ℕ) → value-behind-lts.Need-check-value-requires (value-behind-claims t) (value-behind-at t) value-behind.Post
+value-behind-check-value-requires t c κs = omega (arith, part-length ((c .before .before .front) .given .0 .0) ((c .before .before .before .before .before .before .args) .tape .now), within-good ((c .before .before .front) .given .1) ((c .before .before .before .before .before .before .pre) .1))
+
+-- src/check.rt:350:5
+value-behind-further-requires : (t : ℕ) → value-behind-lts.Need-further-requires (value-behind-claims t) (value-behind-at t) value-behind.Post
+value-behind-further-requires t c κs = omega (arith, part-reach (λ f t. value-reads f ((c .before .before .before .before .before .before .before .args) .text .now) ((c .before .before .before .before .before .before .before .args) .depth) t) ((c .before .before .before .front) .given .0 .0) ((c .before .before .before .before .before .before .before .args) .tape .now) (within-good ((c .before .before .before .front) .given .1) ((c .before .before .before .before .before .before .before .pre) .1) .1) ((c .check-value) .ensures))
+
+-- src/check.rt:343:1
+value-behind-returns-2 : (t : ℕ) → value-behind-lts.Need-returns-2 (value-behind-claims t) (value-behind-at t) value-behind.Post
+value-behind-returns-2 t c = behind-good _ ((c .before .before .before .before .front) .given .1) ((c .before .before .before .before .before .before .before .before .pre) .1) ((c .before .check-value) .ensures) ((c .further) .ensures)
+
+pub +attribute-step+check-attributes+check-children+check-element+check-value+child-step+open-element+open-fragment+value-behind-spec :
+    {M : Type 1} → statement M
++attribute-step+check-attributes+check-children+check-element+check-value+child-step+open-element+open-fragment+value-behind-spec =
+    close
+    μ-attribute-step
+    μ-check-attributes
+    μ-check-children
+    μ-check-element
+    μ-check-value
+    μ-child-step
+    μ-open-element
+    μ-open-fragment
+    μ-value-behind
+    (λ t. attribute-step-lts.spec (attribute-step-claims t) (attribute-step-at t)
+    attribute-step.Post
+    (attribute-step-attribute-command-at-requires t)
+    (attribute-step-enum-known-command t)
+    (attribute-step-check-label-requires t)
+    (attribute-step-value-behind-requires t)
+    (attribute-step-onward-requires t)
+    (attribute-step-enum-known-command-2 t)
+    (attribute-step-check-labels-requires t)
+    (attribute-step-value-behind-requires-2 t)
+    (attribute-step-onward-requires-2 t)
+    (attribute-step-enum-told t)
+    (attribute-step-enum-told-2 t)
+    (attribute-step-sub-check-properties t)
+    (attribute-step-part-check-properties-start t)
+    (attribute-step-part-check-properties-end t)
+    (attribute-step-check-properties-requires t)
+    (attribute-step-further-requires t)
+    (attribute-step-onward-requires-3 t)
+    (attribute-step-enum-told-3 t)
+    (attribute-step-enum-told-4 t)
+    (attribute-step-enum-told-5 t)
+    (attribute-step-returns t)
+    (attribute-step-returns-2 t)
+    (attribute-step-returns-3 t)
+    (attribute-step-returns-4 t)
+    (attribute-step-returns-5 t)
+    (attribute-step-returns-6 t)
+    (attribute-step-returns-7 t))
+    (λ t. check-attributes-lts.spec (check-attributes-claims t) (check-attributes-at t)
+    check-attributes.Post
+    check-attributes-Inv-loop
+    check-attributes-μ-loop
+    (check-attributes-loop-holds t)
+    (check-attributes-sub-attribute-step t)
+    (check-attributes-part-attribute-step-start t)
+    (check-attributes-part-attribute-step-end t)
+    (check-attributes-attribute-step-requires t)
+    (check-attributes-enum-known-step t)
+    (check-attributes-add-i t)
+    (check-attributes-loop-less t)
+    (check-attributes-loop-again t)
+    (check-attributes-enum-known-step-2 t)
+    (check-attributes-add-t14 t)
+    (check-attributes-returns t)
+    (check-attributes-enum-known-step-3 t)
+    (check-attributes-add-t15 t)
+    (check-attributes-returns-2 t))
+    (λ t. check-children-lts.spec (check-children-claims t) (check-children-at t)
+    check-children.Post
+    check-children-Inv-loop
+    check-children-μ-loop
+    (check-children-loop-holds t)
+    (check-children-sub-child-step t)
+    (check-children-part-child-step-start t)
+    (check-children-part-child-step-end t)
+    (check-children-child-step-requires t)
+    (check-children-enum-known-step t)
+    (check-children-add-i t)
+    (check-children-loop-less t)
+    (check-children-loop-again t)
+    (check-children-enum-known-step-2 t)
+    (check-children-add-t14 t)
+    (check-children-returns t)
+    (check-children-enum-known-step-3 t)
+    (check-children-add-t15 t)
+    (check-children-returns-2 t))
+    (λ t. check-element-lts.spec (check-element-claims t) (check-element-at t)
+    check-element.Post
+    (check-element-check-name-requires t)
+    (check-element-enum-known-name t)
+    (check-element-enum-told t)
+    (check-element-returns t)
+    (check-element-sub-check-attributes t)
+    (check-element-part-check-attributes-start t)
+    (check-element-part-check-attributes-end t)
+    (check-element-add-check-attributes t)
+    (check-element-check-attributes-requires t)
+    (check-element-further-requires t)
+    (check-element-enum-known-attributes t)
+    (check-element-enum-told-2 t)
+    (check-element-returns-2 t)
+    (check-element-sub-check-children t)
+    (check-element-part-check-children-start t)
+    (check-element-part-check-children-end t)
+    (check-element-add-check-children t)
+    (check-element-check-children-requires t)
+    (check-element-further-requires-2 t)
+    (check-element-returns-3 t))
+    (λ t. check-value-lts.spec (check-value-claims t) (check-value-at t)
+    check-value.Post
+    (check-value-value-command-at-requires t)
+    (check-value-enum-told t)
+    (check-value-enum-known-command t)
+    (check-value-check-text-requires t)
+    (check-value-enum-told-2 t)
+    (check-value-enum-told-3 t)
+    (check-value-enum-known-command-2 t)
+    (check-value-open-element-requires t)
+    (check-value-enum-known-command-3 t)
+    (check-value-open-fragment-requires t)
+    (check-value-enum-told-4 t)
+    (check-value-enum-told-5 t)
+    (check-value-returns t)
+    (check-value-returns-2 t)
+    (check-value-returns-3 t)
+    (check-value-returns-4 t)
+    (check-value-returns-5 t)
+    (check-value-returns-6 t)
+    (check-value-returns-7 t)
+    (check-value-returns-8 t))
+    (λ t. child-step-lts.spec (child-step-claims t) (child-step-at t)
+    child-step.Post
+    (child-step-child-command-at-requires t)
+    (child-step-enum-known-command t)
+    (child-step-check-text-requires t)
+    (child-step-onward-requires t)
+    (child-step-enum-told t)
+    (child-step-enum-told-2 t)
+    (child-step-enum-told-3 t)
+    (child-step-enum-known-command-2 t)
+    (child-step-open-element-requires t)
+    (child-step-onward-requires-2 t)
+    (child-step-enum-known-command-3 t)
+    (child-step-open-fragment-requires t)
+    (child-step-onward-requires-3 t)
+    (child-step-enum-told-4 t)
+    (child-step-enum-told-5 t)
+    (child-step-enum-told-6 t)
+    (child-step-returns t)
+    (child-step-returns-2 t)
+    (child-step-returns-3 t)
+    (child-step-returns-4 t)
+    (child-step-returns-5 t)
+    (child-step-returns-6 t)
+    (child-step-returns-7 t)
+    (child-step-returns-8 t)
+    (child-step-returns-9 t))
+    (λ t. open-element-lts.spec (open-element-claims t) (open-element-at t)
+    open-element.Post
+    (open-element-check-place-requires t)
+    (open-element-enum-told t)
+    (open-element-enum-told-2 t)
+    (open-element-returns t)
+    (open-element-sub-check-element t)
+    (open-element-part-check-element-start t)
+    (open-element-part-check-element-end t)
+    (open-element-check-element-requires t)
+    (open-element-further-requires t)
+    (open-element-returns-2 t))
+    (λ t. open-fragment-lts.spec (open-fragment-claims t) (open-fragment-at t)
+    open-fragment.Post
+    (open-fragment-check-place-requires t)
+    (open-fragment-enum-told t)
+    (open-fragment-enum-told-2 t)
+    (open-fragment-returns t)
+    (open-fragment-sub-check-children t)
+    (open-fragment-part-check-children-start t)
+    (open-fragment-part-check-children-end t)
+    (open-fragment-add-check-children t)
+    (open-fragment-check-children-requires t)
+    (open-fragment-further-requires t)
+    (open-fragment-returns-2 t))
+    λ t. value-behind-lts.spec (value-behind-claims t) (value-behind-at t)
+    value-behind.Post
+    (value-behind-enum-known-front t)
+    (value-behind-enum-told t)
+    (value-behind-returns t)
+    (value-behind-sub-check-value t)
+    (value-behind-part-check-value-start t)
+    (value-behind-part-check-value-end t)
+    (value-behind-check-value-requires t)
+    (value-behind-further-requires t)
+    (value-behind-returns-2 t)

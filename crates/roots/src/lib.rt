@@ -1,0 +1,2 @@
+// Root tapes: the check against document 01's grammar.
+pub mod check;
