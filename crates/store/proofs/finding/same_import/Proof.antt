@@ -42,39 +42,39 @@ enum-told-8 c = search needs
 
 returns : tie.Need-returns
 unfolding sameImport
-returns c = rw ((c .before .before .before .before .a) .given .1, (c .before .b) .given .1)
+returns c = rw (c .before .before .before .before .a .given .1, c .before .b .given .1)
 
 returns-2 : tie.Need-returns-2
 unfolding sameImport
-returns-2 c = rw ((c .before .before .before .a) .given .1, (c .enum-told) .given .1)
+returns-2 c = rw (c .before .before .before .a .given .1, c .enum-told .given .1)
 
 returns-3 : tie.Need-returns-3
 unfolding sameImport
-returns-3 c = rw ((c .before .before .before .a) .given .1, (c .enum-told2) .given .1)
+returns-3 c = rw (c .before .before .before .a .given .1, c .enum-told2 .given .1)
 
 returns-4 : tie.Need-returns-4
 unfolding sameImport
-returns-4 c = rw ((c .before .before .before .a2) .given .1, (c .enum-told3) .given .1)
+returns-4 c = rw (c .before .before .before .a2 .given .1, c .enum-told3 .given .1)
 
 returns-5 : tie.Need-returns-5
 unfolding sameImport
-returns-5 c = rw ((c .before .before .before .before .a2) .given .1, (c .before .b2) .given .1)
+returns-5 c = rw (c .before .before .before .before .a2 .given .1, c .before .b2 .given .1)
 
 returns-6 : tie.Need-returns-6
 unfolding sameImport
-returns-6 c = rw ((c .before .before .before .a2) .given .1, (c .enum-told4) .given .1)
+returns-6 c = rw (c .before .before .before .a2 .given .1, c .enum-told4 .given .1)
 
 returns-7 : tie.Need-returns-7
 unfolding sameImport
-returns-7 c = rw ((c .before .before .enum-told5) .given .1, (c .enum-told6) .given .1)
+returns-7 c = rw (c .before .before .enum-told5 .given .1, c .enum-told6 .given .1)
 
 returns-8 : tie.Need-returns-8
 unfolding sameImport
-returns-8 c = rw ((c .before .before .enum-told5) .given .1, (c .enum-told7) .given .1)
+returns-8 c = rw (c .before .before .enum-told5 .given .1, c .enum-told7 .given .1)
 
 returns-9 : tie.Need-returns-9
 unfolding sameImport
-returns-9 c = rw ((c .before .before .enum-told5) .given .1, (c .enum-told8) .given .1)
+returns-9 c = rw (c .before .before .enum-told5 .given .1, c .enum-told8 .given .1)
 
 pub same-import-spec : {M : Type 1} → statement M
 same-import-spec =

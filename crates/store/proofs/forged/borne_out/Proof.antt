@@ -18,11 +18,11 @@ in-order-requires c κs = search needs
 
 returns : tie.Need-returns
 unfolding borneOut
-returns c = rw ((c .enum-told) .given .1)
+returns c = rw (c .enum-told .given .1)
 
 returns-2 : tie.Need-returns-2
 unfolding borneOut
-returns-2 c = rw ((c .before .before .before .setting) .given .1, (c .in-order) .ensures, (c .before .span-bounds) .ensures)
+returns-2 c = rw (c .before .before .before .setting .given .1, c .in-order .ensures, c .before .span-bounds .ensures)
 
 pub borne-out-spec : {M : Type 1} → statement M
 borne-out-spec =

@@ -21,15 +21,15 @@ enum-told c = search needs
 
 returns : tie.Need-returns
 unfolding canBind
-returns c = rw ((c .before .before .import) .given .1, (c .can-import) .ensures)
+returns c = rw (c .before .before .import .given .1, c .can-import .ensures)
 
 returns-2 : tie.Need-returns-2
 unfolding canBind
-returns-2 c = rw ((c .before .before .import2) .given .1, (c .can-require) .ensures)
+returns-2 c = rw (c .before .before .import2 .given .1, c .can-require .ensures)
 
 returns-3 : tie.Need-returns-3
 unfolding canBind
-returns-3 c = rw ((c .enum-told) .given .1)
+returns-3 c = rw (c .enum-told .given .1)
 
 pub can-bind-spec : {M : Type 1} → statement M
 can-bind-spec =

@@ -21,15 +21,15 @@ enum-told-3 c = search needs
 
 returns : tie.Need-returns
 unfolding canImport
-returns c = rw ((c .before .before .enum-told) .given .1, (c .before .can-name) .ensures, (c .source-of) .ensures)
+returns c = rw (c .before .before .enum-told .given .1, c .before .can-name .ensures, c .source-of .ensures)
 
 returns-2 : tie.Need-returns-2
 unfolding canImport
-returns-2 c = rw ((c .enum-told2) .given .1)
+returns-2 c = rw (c .enum-told2 .given .1)
 
 returns-3 : tie.Need-returns-3
 unfolding canImport
-returns-3 c = rw ((c .enum-told3) .given .1)
+returns-3 c = rw (c .enum-told3 .given .1)
 
 pub can-import-spec : {M : Type 1} → statement M
 can-import-spec =

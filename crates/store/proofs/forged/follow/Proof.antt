@@ -39,9 +39,9 @@ can-bind-requires c κs = search needs
 
 returns : tie.Need-returns Inv-loop μ-loop
 returns c =
-    let s = (c .before .before .before .before .before .before .before) in
-    let i = (c .before .before .before .before .before .before .loop) .i in
-    sym ((c .before .before .before .before .before .before .loop) .inv .1 ∙ follows-not (s .args .settings) (s .args .t2) i (s .args .n) (omega arith) (omega (arith, s .good .1 .0 .1 .0 .1)) _ _ ((c .before .before .number-in) .ensures) ((c .before .can-bind) .ensures) (not-true _ ((c .if1) .taken)))
+    let s = c .before .before .before .before .before .before .before in
+    let i = c .before .before .before .before .before .before .loop .i in
+    sym (c .before .before .before .before .before .before .loop .inv .1 ∙ follows-not (s .args .settings) (s .args .t2) i (s .args .n) (omega arith) (omega (arith, s .good .1 .0 .1 .0 .1)) _ _ (c .before .before .number-in .ensures) (c .before .can-bind .ensures) (not-true _ (c .if1 .taken)))
 
 add-i : tie.Need-add-i Inv-loop μ-loop
 add-i c = search needs
@@ -51,15 +51,15 @@ loop-less c = search needs
 
 loop-again : tie.Need-loop-again Inv-loop μ-loop
 loop-again c =
-    let s = (c .before .before .before .before .before .before .before) in
-    let i = (c .before .before .before .before .before .before .loop) .i in
-    (omega arith, (c .before .before .before .before .before .before .loop) .inv .1 ∙ follows-on (s .args .settings) (s .args .t2) i (s .args .n) (omega arith) (omega (arith, s .good .1 .0 .1 .0 .1)) _ _ ((c .before .before .number-in) .ensures) ((c .before .can-bind) .ensures) (not-false _ ((c .if1) .left)))
+    let s = c .before .before .before .before .before .before .before in
+    let i = c .before .before .before .before .before .before .loop .i in
+    (omega arith, c .before .before .before .before .before .before .loop .inv .1 ∙ follows-on (s .args .settings) (s .args .t2) i (s .args .n) (omega arith) (omega (arith, s .good .1 .0 .1 .0 .1)) _ _ (c .before .before .number-in .ensures) (c .before .can-bind .ensures) (not-false _ (c .if1 .left)))
 
 returns-2 : tie.Need-returns-2 Inv-loop μ-loop
 returns-2 c =
-    let s = (c .before .before) in
-    let e : (c .before .loop) .i ≡ s .args .n = omega arith in
-    sym ((c .before .loop) .inv .1 ∙ rw e (follows-all (s .args .settings) (imports (take (s .args .n) (s .args .t2))) (s .args .n) (s .args .t2)))
+    let s = c .before .before in
+    let e : c .before .loop .i ≡ s .args .n = omega arith in
+    sym (c .before .loop .inv .1 ∙ rw e (follows-all (s .args .settings) (imports (take (s .args .n) (s .args .t2))) (s .args .n) (s .args .t2)))
 
 pub follow-spec : {M : Type 1} → statement M
 follow-spec =

@@ -16,7 +16,7 @@ same-form-requires-2 : tie.Need-same-form-requires-2
 same-form-requires-2 c κs = search needs
 
 returns : tie.Need-returns
-returns c = rw ((c .before .before .same-form) .ensures, (c .before .before .before .form-under) .ensures, (c .same-form2) .ensures, (c .before .form-under2) .ensures)
+returns c = rw (c .before .before .same-form .ensures, c .before .before .before .form-under .ensures, c .same-form2 .ensures, c .before .form-under2 .ensures)
 
 pub forms-borne-out-spec : {M : Type 1} → statement M
 forms-borne-out-spec =

@@ -8,7 +8,7 @@ use Rattle.store.proofs.forged.is_sound.Statement.{statement}
 use Rattle.store.proofs.forged.is_sound.Tie as tie
 
 returns : tie.Need-returns
-returns c = sym (sound-over (now ((c .before .before .args) .text)) ((c .before .before .args) .state) ((c .if1) .taken))
+returns c = sym (sound-over (now (c .before .before .args .text)) (c .before .before .args .state) (c .if1 .taken))
 
 spans-borne-out-requires : tie.Need-spans-borne-out-requires
 spans-borne-out-requires c κs = search needs
@@ -20,7 +20,7 @@ follow-requires : tie.Need-follow-requires
 follow-requires c κs = search needs
 
 returns-2 : tie.Need-returns-2
-returns-2 c = rw ((c .before .before .spans-borne-out) .ensures, (c .before .forms-borne-out) .ensures, (c .follow) .ensures) (sound-parts (now ((c .before .before .before .before .before .before .before .before .args) .text)) ((c .before .before .before .before .before .before .before .before .args) .state) (omega arith))
+returns-2 c = rw (c .before .before .spans-borne-out .ensures, c .before .forms-borne-out .ensures, c .follow .ensures) (sound-parts (now (c .before .before .before .before .before .before .before .before .args .text)) (c .before .before .before .before .before .before .before .before .args .state) (omega arith))
 
 pub is-sound-spec : {M : Type 1} → statement M
 is-sound-spec =

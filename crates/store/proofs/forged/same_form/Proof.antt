@@ -10,7 +10,7 @@ root-number-requires-2 : tie.Need-root-number-requires-2
 root-number-requires-2 c κs = search needs
 
 returns : tie.Need-returns
-returns c = rw ((c .before .before .before .root-number) .ensures, (c .before .before .root-number2) .ensures)
+returns c = rw (c .before .before .before .root-number .ensures, c .before .before .root-number2 .ensures)
 
 pub same-form-spec : {M : Type 1} → statement M
 same-form-spec = tie.close (tie.spec root-number-requires root-number-requires-2 returns)

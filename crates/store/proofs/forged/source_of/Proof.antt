@@ -4,10 +4,10 @@ use Rattle.store.proofs.forged.source_of.Statement.{statement}
 use Rattle.store.proofs.forged.source_of.Tie as tie
 
 returns : tie.Need-returns
-returns c = rw (eq-eqb ((c .before .args) .name) 1 ((c .if1) .taken))
+returns c = rw (eq-eqb (c .before .args .name) 1 (c .if1 .taken))
 
 returns-2 : tie.Need-returns-2
-returns-2 c = rw (ne-eqb ((c .before .args) .name) 1 ((c .if1) .left))
+returns-2 c = rw (ne-eqb (c .before .args .name) 1 (c .if1 .left))
 
 pub source-of-spec : {M : Type 1} → statement M
 source-of-spec = tie.close (tie.spec returns returns-2)

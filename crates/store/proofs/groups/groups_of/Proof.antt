@@ -31,11 +31,11 @@ array-copy-out-r c = omega arith
 
 grouped-by-requires : tie.Need-grouped-by-requires Inv-loop μ-loop
 grouped-by-requires c κs =
-    let s = (c .before .before .before) in
-    let i = (c .before .before .loop) .i in
+    let s = c .before .before .before in
+    let i = c .before .before .loop .i in
     let l : s .args .n ≤ length (s .args .t1) = omega (arith, s .good .0 .1 .0 .1) in
-    let k = known-next (s .args .t1) i (s .args .n) (omega arith) l ((c .before .before .loop) .inv .2) in
-    (k .0, (c .before .before .loop) .inv .1)
+    let k = known-next (s .args .t1) i (s .args .n) (omega arith) l (c .before .before .loop .inv .2) in
+    (k .0, c .before .before .loop .inv .1)
 
 add-i : tie.Need-add-i Inv-loop μ-loop
 add-i c = omega arith
@@ -45,23 +45,23 @@ loop-less c = omega arith
 
 loop-again : tie.Need-loop-again Inv-loop μ-loop
 loop-again c =
-    let s = (c .before .before .before .before) in
-    let i = (c .before .before .before .loop) .i in
+    let s = c .before .before .before .before in
+    let i = c .before .before .before .loop .i in
     let l : s .args .n ≤ length (s .args .t1) = omega (arith, s .good .0 .1 .0 .1) in
-    let k = known-next (s .args .t1) i (s .args .n) (omega arith) l ((c .before .before .before .loop) .inv .2) in (
+    let k = known-next (s .args .t1) i (s .args .n) (omega arith) l (c .before .before .before .loop .inv .2) in (
       omega arith,
-      (c .grouped-by) .ensures .apart,
+      c .grouped-by .ensures .apart,
       k .1,
-      (c .before .before .before .loop) .inv .3
+      c .before .before .before .loop .inv .3
           ∙ groups-next _ (s .args .t1) i (s .args .n) (omega arith) l
-          ∙ ap (λ (g : List ℕ). groupsFrom g (slice (i + 1) (s .args .n) (s .args .t1))) (sym ((c .grouped-by) .ensures .same)),
+          ∙ ap (λ (g : List ℕ). groupsFrom g (slice (i + 1) (s .args .n) (s .args .t1))) (sym (c .grouped-by .ensures .same)),
     )
 
 returns : tie.Need-returns Inv-loop μ-loop
 returns c =
-    let s = (c .before .before) in
-    let e : (c .before .loop) .i ≡ s .args .n = omega arith in
-    sym ((c .before .loop) .inv .3 ∙ rw e (groups-end _ (s .args .n) (s .args .t1)))
+    let s = c .before .before in
+    let e : c .before .loop .i ≡ s .args .n = omega arith in
+    sym (c .before .loop .inv .3 ∙ rw e (groups-end _ (s .args .n) (s .args .t1)))
 
 pub groups-of-spec : {M : Type 1} → statement M
 groups-of-spec =

@@ -21,14 +21,14 @@ same-length c = search needs
 
 returns : tie.Need-returns
 unfolding entryOf
-returns c = rw ((c .before .before .before .before .before .part) .given .1) ((c .before .before .put-in-group) .ensures)
+returns c = rw (c .before .before .before .before .before .part .given .1) (c .before .before .put-in-group .ensures)
 
 same-length-2 : tie.Need-same-length-2
 same-length-2 c = search needs
 
 returns-2 : tie.Need-returns-2
 unfolding entryOf
-returns-2 c = rw ((c .before .before .before .before .before .part2) .given .1) ((c .before .before .put-file-name) .ensures)
+returns-2 c = rw (c .before .before .before .before .before .part2 .given .1) (c .before .before .put-file-name .ensures)
 
 pub put-entry-spec : {M : Type 1} → statement M
 put-entry-spec =

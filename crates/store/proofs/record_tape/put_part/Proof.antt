@@ -18,7 +18,7 @@ abbrev μ-loop : tie.MeasureT-loop
 
 loop-holds : tie.Need-loop-holds Inv-loop μ-loop
 unfolding partTape
-loop-holds c = (omega arith, wrote-nothing (now ((c .before .args) .out)) ((c .before .args) .at) ((c .before) .pre .1))
+loop-holds c = (omega arith, wrote-nothing (now (c .before .args .out)) (c .before .args .at) (c .before .pre .1))
 
 mul-r : tie.Need-mul-r Inv-loop μ-loop
 mul-r c = omega arith
@@ -27,7 +27,7 @@ array-copy-out-r : tie.Need-array-copy-out-r Inv-loop μ-loop
 array-copy-out-r c = omega arith
 
 put-entry-requires : tie.Need-put-entry-requires Inv-loop μ-loop
-put-entry-requires c κs = wrote-small ((c .before .before .before .loop) .inv .1)
+put-entry-requires c κs = wrote-small (c .before .before .before .loop .inv .1)
 
 add-i : tie.Need-add-i Inv-loop μ-loop
 add-i c = omega arith
@@ -37,18 +37,18 @@ loop-less c = omega arith
 
 loop-again : tie.Need-loop-again Inv-loop μ-loop
 loop-again c =
-    let s = (c .before .before .before .before .before .before .before .before) in
-    let i = (c .before .before .before .before .before .before .loop) .i in
-    let w = wrote-then (omega arith) ((c .before .before .before .before .before .before .loop) .inv .1) ((c .before .before .put-entry) .ensures) in
+    let s = c .before .before .before .before .before .before .before .before in
+    let i = c .before .before .before .before .before .before .loop .i in
+    let w = wrote-then (omega arith) (c .before .before .before .before .before .before .loop .inv .1) (c .before .before .put-entry .ensures) in
     (omega arith, rw (part-next (s .args .part) (s .args .t2) i (omega (arith, s .good .1 .0 .1 .0 .1))) at w)
 
 same-length : tie.Need-same-length Inv-loop μ-loop
-same-length c = wrote-length ((c .before .loop) .inv .1)
+same-length c = wrote-length (c .before .loop .inv .1)
 
 returns : tie.Need-returns Inv-loop μ-loop
 returns c =
-    let e : (c .before .loop) .i ≡ (c .before .before .before .args) .n = omega arith in
-    rw e at ((c .before .loop) .inv .1)
+    let e : c .before .loop .i ≡ c .before .before .before .args .n = omega arith in
+    rw e at (c .before .loop .inv .1)
 
 pub put-part-spec : {M : Type 1} → statement M
 put-part-spec =

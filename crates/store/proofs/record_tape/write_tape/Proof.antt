@@ -20,9 +20,9 @@ put-tape-requires c κs = search needs
 
 returns : tie.Need-returns
 returns c =
-    let a = (c .before .before .before .before .before .before .args) in
+    let a = c .before .before .before .before .before .before .args in
     let rs = take (a .n) (a .records) in
-    let z = tape-size (a .mode) _ rs ((c .before .before .before .before .groups-of) .ensures) (omega (arith, length-take (a .n) (a .records))) ((c .before .before .put-tape) .ensures) in
+    let z = tape-size (a .mode) _ rs (c .before .before .before .before .groups-of .ensures) (omega (arith, length-take (a .n) (a .records))) (c .before .before .put-tape .ensures) in
     rw z (crowded (recordTape (a .mode) rs) (now (a .target)) (omega arith))
 
 put-tape-requires-2 : tie.Need-put-tape-requires-2
@@ -33,11 +33,11 @@ same-length c = search needs
 
 returns-2 : tie.Need-returns-2
 returns-2 c =
-    let a = (c .before .before .before .before .before .before .before .before .before .before .args) in
+    let a = c .before .before .before .before .before .before .before .before .before .before .args in
     let rs = take (a .n) (a .records) in
-    let z = tape-size (a .mode) _ rs ((c .before .before .before .before .before .before .before .before .groups-of) .ensures) (omega (arith, length-take (a .n) (a .records))) ((c .before .before .before .before .before .before .put-tape) .ensures) in
+    let z = tape-size (a .mode) _ rs (c .before .before .before .before .before .before .before .before .groups-of .ensures) (omega (arith, length-take (a .n) (a .records))) (c .before .before .before .before .before .before .put-tape .ensures) in
     let l : length (recordTape (a .mode) rs) ≤ length (now (a .target)) = omega arith in
-    rw (z, tape-laid (a .mode) _ rs ((c .before .before .before .before .before .before .before .before .groups-of) .ensures) l ((c .before .before .put-tape2) .ensures)) (roomy (recordTape (a .mode) rs) (now (a .target)) l)
+    rw (z, tape-laid (a .mode) _ rs (c .before .before .before .before .before .before .before .before .groups-of .ensures) l (c .before .before .put-tape2 .ensures)) (roomy (recordTape (a .mode) rs) (now (a .target)) l)
 
 pub write-tape-spec : {M : Type 1} → statement M
 write-tape-spec =

@@ -1,0 +1,63 @@
+use mathlib.Core.Path.{sym, _∙_}
+use borrow.Author.Tests.{lt-ltb, le-ltb}
+use borrow.Author.Needs.{needs}
+use Rattle.definitions.specs.Judging.{refuse, refuseAt}
+use Rattle.definitions.specs.Opening.{judgeOpening}
+use Rattle.definitions.specs.Entries.{opened}
+use Rattle.text.proofs.Lists.{told}
+use Rattle.settings.specs.Tapes.{openedTape}
+use Rattle.settings.proofs.opening.open_job.Statement.{statement}
+use Rattle.settings.proofs.opening.open_job.Tie as tie
+
+refused-requires : tie.Need-refused-requires
+refused-requires c κs = search needs
+
+returns : tie.Need-returns
+unfolding opened judgeOpening refuse
+returns c = c .refused .ensures ∙ sym (rw (lt-ltb _ _ (c .before .if1 .taken)))
+
+refused-requires-2 : tie.Need-refused-requires-2
+refused-requires-2 c κs = search needs
+
+returns-2 : tie.Need-returns-2
+unfolding opened judgeOpening refuse
+returns-2 c = c .refused2 .ensures ∙ sym (rw (le-ltb _ _ (c .before .before .if1 .left), lt-ltb _ _ (c .before .if2 .taken)))
+
+first-ill-formed-requires : tie.Need-first-ill-formed-requires
+first-ill-formed-requires c κs = search needs
+
+enum-known-place : tie.Need-enum-known-place
+enum-known-place c = search needs
+
+refused-requires-3 : tie.Need-refused-requires-3
+refused-requires-3 c κs = search needs
+
+enum-told : tie.Need-enum-told
+enum-told c = search needs
+
+open-text-requires : tie.Need-open-text-requires
+open-text-requires c κs = search needs
+
+returns-3 : tie.Need-returns-3
+unfolding opened judgeOpening refuse refuseAt
+returns-3 c = c .refused3 .ensures ∙ sym (rw (le-ltb _ _ (c .before .before .before .before .before .before .if1 .left), le-ltb _ _ (c .before .before .before .before .before .if2 .left), told (c .before .before .before .before .first-ill-formed .ensures) (c .before .before .place .given .1)))
+
+returns-4 : tie.Need-returns-4
+unfolding opened judgeOpening refuse refuseAt openedTape
+returns-4 c = c .open-text .ensures ∙ sym (rw (le-ltb _ _ (c .before .before .before .before .before .if1 .left), le-ltb _ _ (c .before .before .before .before .if2 .left), told (c .before .before .before .first-ill-formed .ensures) (c .before .enum-told .given .1)))
+
+pub open-job-spec : {M : Type 1} → statement M
+open-job-spec =
+    tie.close
+    (tie.spec
+    refused-requires
+    returns
+    refused-requires-2
+    returns-2
+    first-ill-formed-requires
+    enum-known-place
+    refused-requires-3
+    enum-told
+    open-text-requires
+    returns-3
+    returns-4)

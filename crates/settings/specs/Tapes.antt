@@ -1,0 +1,94 @@
+-- What the walks over the opening tape give, in the terms of document 01's definitions.
+use Prim.Native.Nat.{ℕ, suc}
+use mathlib.Core.Bool.{cond}
+use mathlib.Core.List.{List, [], _∷_}
+use lib.ListN.{length, drop, replicate}
+use lib.Dec.{eqb}
+use Rattle.text.specs.declared.spans.Span.{Span}
+use Rattle.text.specs.declared.spans.Bounds.{Bounds}
+use Rattle.text.specs.declared.spans.Bounds.the-variants as bounds
+use Rattle.text.specs.Spans.{boundsOf}
+use Rattle.commands.specs.declared.opening.OptionCommand.{OptionCommand}
+use Rattle.commands.specs.declared.opening.OptionCommand.the-variants as option
+use Rattle.tape.specs.declared.refusal.Fault.the-variants.{Grammar, Outside, Cuts}
+use Rattle.tape.specs.declared.refusal.Refusal.the-variants as refusal
+use Rattle.tape.specs.Numbers.{spanAt}
+use Rattle.definitions.specs.declared.options.Optional.the-variants.{Absent, Present}
+use Rattle.definitions.specs.declared.options.Options.{Options}
+use Rattle.definitions.specs.declared.options.Settings.{Settings}
+use Rattle.definitions.specs.declared.state.State.{State}
+use Rattle.definitions.specs.Judging.{Parsed, from, Judged, accepted, refused, read}
+use Rattle.definitions.specs.Options.{flagsOf, conform}
+use Rattle.definitions.specs.Comments.{withComments}
+use Rattle.definitions.specs.Opening.{Opening, bare, optionsFrom, readOpening, optionsOf, settingsOf, pragmasChecked}
+use Rattle.definitions.specs.Entries.{noRecord}
+use Rattle.settings.specs.declared.opening.Next.{Next}
+use Rattle.settings.specs.declared.opening.Next.the-variants as next
+use Rattle.settings.specs.declared.opening.OpeningRead.{OpeningRead}
+use Rattle.settings.specs.declared.opening.OpeningRead.the-variants as outcome
+
+-- the comments among commands of five bytes
+unfoldable pub commentsOf : List ℕ → List Span
+commentsOf [] = []
+commentsOf (c ∷ []) = []
+commentsOf (c ∷ s ∷ []) = []
+commentsOf (c ∷ s ∷ t ∷ []) = []
+commentsOf (c ∷ s ∷ t ∷ l ∷ []) = []
+commentsOf (c ∷ s ∷ t ∷ l ∷ m ∷ rest) = cond (eqb c 0x60) (spanAt (s ∷ t ∷ l ∷ m ∷ []) 0 ∷ commentsOf rest) (commentsOf rest)
+
+-- the options before the comments
+unfoldable pub optionsBefore : Opening → Options
+optionsBefore o =
+    record {
+      flags = conform (flagsOf (o .flags));
+      pragma = o .pragma;
+      «pragma_frag» = o .pragmaFrag;
+      «import_source» = o .importSource;
+      «ts_pragma» = Absent;
+      «ts_pragma_frag» = Absent;
+    }
+
+-- a command with a span: it is in order, and the options are these after it, or it isn't
+unfoldable pub spannedBy : Bounds → ℕ → Options → Next
+spannedBy bounds.Outside last p = next.Stop Outside 0
+spannedBy bounds.Cuts last p = next.Stop Cuts 0
+spannedBy bounds.Empty last p = next.More last p
+spannedBy bounds.Good last p = next.More last p
+
+-- the command at the front of t, the options before it being p
+unfoldable pub nextBy : List ℕ → List ℕ → Options → OptionCommand → Next
+nextBy text t p option.End = next.End
+nextBy text t p option.Wrong = next.Stop Grammar 0
+nextBy text t p option.Cut = next.Stop Grammar (length t)
+nextBy text t p (option.Pragma s) =
+    spannedBy (boundsOf text s) 0x62
+    (record { flags = p .flags; pragma = Present s; «pragma_frag» = p .«pragma_frag»; «import_source» = p .«import_source»; «ts_pragma» = p .«ts_pragma»; «ts_pragma_frag» = p .«ts_pragma_frag» })
+nextBy text t p (option.PragmaFrag s) =
+    spannedBy (boundsOf text s) 0x63
+    (record { flags = p .flags; pragma = p .pragma; «pragma_frag» = Present s; «import_source» = p .«import_source»; «ts_pragma» = p .«ts_pragma»; «ts_pragma_frag» = p .«ts_pragma_frag» })
+nextBy text t p (option.ImportSource s) =
+    spannedBy (boundsOf text s) 0x64
+    (record { flags = p .flags; pragma = p .pragma; «pragma_frag» = p .«pragma_frag»; «import_source» = Present s; «ts_pragma» = p .«ts_pragma»; «ts_pragma_frag» = p .«ts_pragma_frag» })
+nextBy text t p (option.Comment s) = spannedBy (boundsOf text s) 0x64 p
+
+-- the options that reading gives
+unfoldable pub judgedOptions : List ℕ → Parsed Opening → Judged Options
+judgedOptions text r = read r (λ o. accepted (optionsOf text o))
+
+unfoldable pub judgedBy : List ℕ → List ℕ → OpeningRead → Judged Options
+judgedBy text tape (outcome.Done p) = accepted (withComments text p (commentsOf (drop 3 tape)))
+judgedBy text tape (outcome.Stop f i) = refused (refusal.Tape f i)
+
+-- behind the flags n
+abbrev pub behindFlags : List ℕ → List ℕ → ℕ → Parsed Opening
+behindFlags text tape n = from 3 (optionsFrom (suc (length tape)) text 0x61 (bare n) (drop 3 tape))
+
+-- ---- the answer
+
+-- a state with no records, whose count is k
+abbrev pub stateWith : Settings → ℕ → State
+stateWith s k = record { settings = s; records = replicate 8 noRecord; count = k; calls = 0; notices = 0 }
+
+-- what reading the tape comes to, in a text that is in order
+unfoldable pub openedTape : List ℕ → List ℕ → Judged Settings
+openedTape text tape = read (readOpening text tape) (λ o. pragmasChecked text (settingsOf text (optionsOf text o)))

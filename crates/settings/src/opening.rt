@@ -1,0 +1,278 @@
+// Opening a job. Opening tape: 61 flags u16; then at most one each, in this order, of 62 pragma S, 63 pragmaFrag S, 64 importSource S;
+// then any number of 60 comment S.
+ghost use mathlib.Core.Path.{_≡_};
+ghost use Prim.Native.Nat.{_≤_};
+ghost use lib.ListN.{length};
+ghost use Rattle.commands.specs.Opening.{optionCommand};
+ghost use Rattle.text.specs.Spans.{boundsOf};
+ghost use Rattle.definitions.specs.Judging as judging;
+ghost use Rattle.definitions.specs.Opening.{bare, readOpening, overAsciiIn, ifClassic, pragmasChecked};
+ghost use Rattle.definitions.specs.Entries.{openedBy, opened};
+ghost use Rattle.settings.specs.Tapes.{optionsBefore, spannedBy, nextBy, judgedOptions, judgedBy, behindFlags, stateWith, openedTape};
+use crate::comments::update_options_with_comments;
+use crate::jsx_impl::new;
+use crate::options::conform;
+use crate::options::flags_of;
+use commands::opening::FlagsCommand;
+use commands::opening::OptionCommand;
+use commands::opening::flags_command_at;
+use commands::opening::option_command_at;
+use definitions::options::Flags;
+use definitions::options::Form;
+use definitions::options::Mode;
+use definitions::options::Optional;
+use definitions::options::Options;
+use definitions::options::PragmaRoot;
+use definitions::options::Settings;
+use definitions::records::Import;
+use definitions::records::Record;
+use definitions::state::Answer;
+use definitions::state::State;
+use definitions::state::Stepped;
+use tape::refusal::Fault;
+use tape::refusal::Refusal;
+use text::bytes::Found;
+use text::bytes::find_over_ascii;
+use text::spans::Bounds;
+use text::spans::Span;
+use text::spans::part;
+use text::spans::span_bounds;
+use text::utf8::first_ill_formed;
+
+// What the command at the front of a tape comes to: its end, a fault and its place, or the options behind it with the last option's byte.
+enum Next {
+    End,
+    Stop(Fault, usize),
+    More(u8, Options),
+}
+
+// The options that a tape gives before its comments, or its first fault and the fault's place.
+enum OpeningRead {
+    Done(Options),
+    Stop(Fault, usize),
+}
+
+// ---- reading the tape
+
+fn spanned(text: &[u8], span: Span, last: u8, options: Options) -> Next
+    ensures { λ r. ⌜ r ≡ spannedBy (boundsOf (now (text .entry)) span) last options ⌝ }
+{
+    match span_bounds(text, span) {
+        Bounds::Outside => Next::Stop(Fault::Outside, 0),
+        Bounds::Cuts => Next::Stop(Fault::Cuts, 0),
+        Bounds::Empty => Next::More(last, options),
+        Bounds::Good => Next::More(last, options),
+    }
+}
+
+// A comment leaves the options as they are: comments are applied when the whole tape is in order.
+fn next_command(text: &[u8], last: u8, options: Options, tape: &[u8]) -> Next
+    ensures { λ r. ⌜ r ≡ nextBy (now (text .entry)) (now (tape .entry)) options (optionCommand last (now (tape .entry))) ⌝ }
+{
+    let flags = options.flags;
+    let pragma = options.pragma;
+    let pragma_frag = options.pragma_frag;
+    let import_source = options.import_source;
+    let ts_pragma = options.ts_pragma;
+    let ts_pragma_frag = options.ts_pragma_frag;
+    match option_command_at(last, tape) {
+        OptionCommand::End => Next::End,
+        OptionCommand::Wrong => Next::Stop(Fault::Grammar, 0),
+        OptionCommand::Cut => Next::Stop(Fault::Grammar, tape.len()),
+        OptionCommand::Pragma(s) => spanned(
+            text,
+            s,
+            0x62,
+            Options {
+                flags: flags,
+                pragma: Optional::Present(s),
+                pragma_frag: pragma_frag,
+                import_source: import_source,
+                ts_pragma: ts_pragma,
+                ts_pragma_frag: ts_pragma_frag,
+            },
+        ),
+        OptionCommand::PragmaFrag(s) => spanned(
+            text,
+            s,
+            0x63,
+            Options {
+                flags: flags,
+                pragma: pragma,
+                pragma_frag: Optional::Present(s),
+                import_source: import_source,
+                ts_pragma: ts_pragma,
+                ts_pragma_frag: ts_pragma_frag,
+            },
+        ),
+        OptionCommand::ImportSource(s) => spanned(
+            text,
+            s,
+            0x64,
+            Options {
+                flags: flags,
+                pragma: pragma,
+                pragma_frag: pragma_frag,
+                import_source: Optional::Present(s),
+                ts_pragma: ts_pragma,
+                ts_pragma_frag: ts_pragma_frag,
+            },
+        ),
+        OptionCommand::Comment(s) => spanned(text, s, 0x64, options),
+    }
+}
+
+// Flags and nothing else.
+fn bare_options(n: u16) -> Options
+    ensures { λ r. ⌜ r ≡ optionsBefore (bare n) ⌝ }
+{
+    Options {
+        flags: conform(flags_of(n)),
+        pragma: Optional::Absent,
+        pragma_frag: Optional::Absent,
+        import_source: Optional::Absent,
+        ts_pragma: Optional::Absent,
+        ts_pragma_frag: Optional::Absent,
+    }
+}
+
+// The commands behind the flags n.
+fn read_options(text: &[u8], n: u16, tape: &[u8]) -> OpeningRead
+    requires { ⌜ 3 ≤ length (now tape) ⌝ }
+    ensures { λ r. ⌜ judgedOptions (now (text .entry)) (behindFlags (now (text .entry)) (now (tape .entry)) n) ≡ judgedBy (now (text .entry)) (now (tape .entry)) r ⌝ }
+{
+    let mut options = bare_options(n);
+    let mut last: u8 = 0x61;
+    let mut i = 3;
+    loop {
+        match next_command(text, last, options, &tape[i..]) {
+            Next::End => return OpeningRead::Done(options),
+            Next::Stop(fault, place) => return OpeningRead::Stop(fault, i + place),
+            Next::More(next, behind) => {
+                last = next;
+                options = behind;
+                i += 5;
+            }
+        }
+    }
+}
+
+fn read_opening(text: &[u8], tape: &[u8]) -> OpeningRead
+    ensures { λ r. ⌜ judgedOptions (now (text .entry)) (readOpening (now (text .entry)) (now (tape .entry))) ≡ judgedBy (now (text .entry)) (now (tape .entry)) r ⌝ }
+{
+    match flags_command_at(tape) {
+        FlagsCommand::Wrong => OpeningRead::Stop(Fault::Grammar, 0),
+        FlagsCommand::Cut => OpeningRead::Stop(Fault::Grammar, tape.len()),
+        FlagsCommand::Bad => OpeningRead::Stop(Fault::Grammar, 0),
+        FlagsCommand::Flags(n) => read_options(text, n, tape),
+    }
+}
+
+// ---- the answer
+
+fn no_records(settings: Settings, count: usize) -> State
+    ensures { λ r. ⌜ r ≡ stateWith settings count ⌝ }
+{
+    State {
+        settings: settings,
+        records: [Record {
+            import: Import::FileName,
+            binding: 0,
+        }; 8],
+        count: count,
+        calls: 0,
+        notices: 0,
+    }
+}
+
+fn refused(why: Refusal) -> Stepped
+    ensures { λ r. ⌜ r ≡ openedBy (judging.refused why) ⌝ }
+{
+    let settings = new(b"", bare_options(0));
+    // over 8 records: every entry refuses this state as forged
+    let state = no_records(settings, 9);
+    Stepped {
+        answer: Answer::Refused(why),
+        state: state,
+    }
+}
+
+fn accepted(settings: Settings) -> Stepped
+    ensures { λ r. ⌜ r ≡ openedBy (judging.accepted settings) ⌝ }
+{
+    let state = no_records(settings, 0);
+    Stepped {
+        answer: Answer::Accepted,
+        state: state,
+    }
+}
+
+// The place of the first byte over 7F of a pragma that is in force.
+fn over_ascii_in(text: &[u8], pragma: Optional) -> Found
+    ensures { λ r. ⌜ r ≡ overAsciiIn (now (text .entry)) pragma ⌝ }
+{
+    match pragma {
+        Optional::Absent => Found::Nothing,
+        Optional::Present(span) => {
+            let Found::At(place) = find_over_ascii(part(text, span)) else {
+                return Found::Nothing;
+            };
+            Found::At(span.start as usize + place)
+        }
+    }
+}
+
+fn over_ascii_under(mode: Mode, text: &[u8], pragma: Optional) -> Found
+    ensures { λ r. ⌜ r ≡ ifClassic mode (overAsciiIn (now (text .entry)) pragma) ⌝ }
+{
+    match mode {
+        Mode::Classic => over_ascii_in(text, pragma),
+        Mode::Module => Found::Nothing,
+        Mode::Script => Found::Nothing,
+    }
+}
+
+fn open_settings(text: &[u8], settings: Settings) -> Stepped
+    ensures { λ r. ⌜ r ≡ openedBy (pragmasChecked (now (text .entry)) settings) ⌝ }
+{
+    let options = settings.options;
+    let pragma = options.pragma;
+    let pragma_frag = options.pragma_frag;
+    let mode = settings.mode;
+    match over_ascii_under(mode, text, pragma) {
+        Found::At(place) => refused(Refusal::PragmaByte(place)),
+        Found::Nothing => match over_ascii_under(mode, text, pragma_frag) {
+            Found::At(place) => refused(Refusal::PragmaByte(place)),
+            Found::Nothing => accepted(settings),
+        },
+    }
+}
+
+// A text that is not too long and is UTF-8.
+fn open_text(text: &[u8], tape: &[u8]) -> Stepped
+    requires { ⌜ length (now text) ≤ 65535 ⌝ }
+    ensures { λ r. ⌜ r ≡ openedBy (openedTape (now (text .entry)) (now (tape .entry))) ⌝ }
+{
+    match read_opening(text, tape) {
+        OpeningRead::Stop(fault, place) => refused(Refusal::Tape(fault, place)),
+        OpeningRead::Done(options) => {
+            let settings = new(text, update_options_with_comments(text, options, tape));
+            open_settings(text, settings)
+        }
+    }
+}
+
+pub fn open_job(text: &[u8], tape: &[u8]) -> Stepped
+    ensures { λ r. ⌜ r ≡ opened (now (text .entry)) (now (tape .entry)) ⌝ }
+{
+    if 65535 < text.len() {
+        return refused(Refusal::TooLong);
+    }
+    if 65535 < tape.len() {
+        return refused(Refusal::TooLong);
+    }
+    match first_ill_formed(text) {
+        Found::At(place) => refused(Refusal::NotUtf8(place)),
+        Found::Nothing => open_text(text, tape),
+    }
+}

@@ -1,0 +1,86 @@
+// Lines of what the store answers.
+ghost use Prim.Native.Nat.{_≤_};
+use definitions::records::Import;
+use definitions::state::State;
+use definitions::state::Written;
+use libc::STDOUT_FILENO;
+use store::forged::is_forged;
+use store::module_imports::Store;
+use store::module_imports::add_import;
+use store::module_imports::write_records;
+use tape::refusal::figure;
+use tape::refusal::number;
+
+fn say(word: &[u8], n: usize) {
+    io::write_all(STDOUT_FILENO, word);
+    io::print_decimal(STDOUT_FILENO, n as u64);
+}
+
+fn show_bytes(bytes: &[u8]) {
+    let mut i = 0;
+    while i < bytes.len() {
+        io::write_all(STDOUT_FILENO, b" ");
+        io::print_hex(STDOUT_FILENO, wide(bytes[i]), 2);
+        i += 1;
+    }
+}
+
+fn wide(b: u8) -> u64 {
+    b as u64
+}
+
+fn show_answer(written: Written) {
+    match written {
+        Written::Accepted(n) => say(b": accepted ", n),
+        Written::Refused(r) => {
+            say(b": refused ", number(r) as usize);
+            say(b" ", figure(r));
+        }
+    }
+}
+
+fn show_written(label: &[u8], text: &[u8], state: State, target: &mut [u8]) {
+    let written = write_records(text, state, target);
+    io::write_all(STDOUT_FILENO, label);
+    show_answer(written);
+    io::write_all(STDOUT_FILENO, b":");
+    show_bytes(target);
+    io::write_all(STDOUT_FILENO, b"\n");
+}
+
+// Writing the records into a target of `room` bytes.
+pub fn show(label: &[u8], text: &[u8], state: State, room: usize)
+    requires { ⌜ room ≤ 32 ⌝ }
+{
+    let mut target = [0xee; 32];
+    show_written(label, text, state, &mut target[0..room]);
+}
+
+// Whether a root turns the state away.
+pub fn show_forged(label: &[u8], text: &[u8], state: State, call_room: usize, notice_room: usize) {
+    io::write_all(STDOUT_FILENO, label);
+    if is_forged(text, state, call_room, notice_room) {
+        io::write_all(STDOUT_FILENO, b": forged\n");
+    } else {
+        io::write_all(STDOUT_FILENO, b": sound\n");
+    }
+}
+
+// The number that an import gets, or that the store is full, and how many records there are then.
+pub fn show_added(label: &[u8], state: State, import: Import) {
+    let records = state.records;
+    let store = Store {
+        records,
+        count: state.count,
+    };
+    let added = add_import(store, import);
+    io::write_all(STDOUT_FILENO, label);
+    if added.full {
+        io::write_all(STDOUT_FILENO, b": full");
+    } else {
+        say(b": number ", added.number as usize);
+    }
+    let after = added.store;
+    say(b" of ", after.count);
+    io::write_all(STDOUT_FILENO, b"\n");
+}
