@@ -1,4 +1,8 @@
--- Characters of a text from a place on, and the fold over them, step by step.
+-- The fold over a text's characters, from a place of its bytes on.
+--     restFrom, onMark                     what the fold gives from there on; the same by what stands there
+--     ascii-char                           the character at a byte below 80
+--     at-character, at-plain, at-spaces    a character, a run of plain ASCII and a run of spaces are passed
+--     Passed, passed                       whatever the code says that stands there
 -- Assumes nothing.
 use mathlib.Core.Path.{_≡_, refl, sym, ap, subst, _∙_}
 use mathlib.Core.Bool.{Bool, true, false, cond}
@@ -37,6 +41,7 @@ chars-pass zero at (b ∷ l) h = rw add-zero
 chars-pass (suc n) at [] h = absurd (not-suc-le-zero h)
 chars-pass (suc n) at (b ∷ l) h = chars-pass n (suc at) l (le-of-suc-le-suc h) ∙ rw (suc-add at n, add-suc at n)
 
+-- the character at the front of a list that stands at `at`
 abbrev first : ℕ → List ℕ → Placed
 first at l = record { at = at; code = charOf l .code; next = at + width l }
 

@@ -1,7 +1,8 @@
 -- The bytes of a text child, line by line: they are the same whatever is bound, and a text binds nothing and notifies nothing.
---     moreBytes, restBytes         what is written behind a line; what is written from here on
---     rest-line, rest-end          .. line by line
+--     Unbound                                outputs that bind nothing and notify nothing, and their bytes
+--     text-unbound                           a text child is such, whatever is bound: its three parts are
 --     text-anywhere, text-binds-nothing, text-silent
+--     restBytes, rest-line, rest-end         what is written from a place among the lines on, line by line
 -- Assumes nothing.
 use mathlib.Core.Path.{_≡_, refl, ap}
 use mathlib.Core.Bool.{Bool, true, false, cond}

@@ -1,4 +1,4 @@
--- A line written in pieces. Assumes nothing.
+-- A line of a JSX text, written in two or three steps. Assumes nothing.
 use mathlib.Core.Path.{_≡_}
 use mathlib.Core.Bool.{Bool, cond}
 use mathlib.Core.List.{List, [], _∷_}
