@@ -1,0 +1,36 @@
+"""The file of cases: what generate.py writes and what model.py, oracle and others read.
+
+Each case: job, text, number of roots, roots. Lengths and the number are four bytes, little-endian.
+"""
+
+import struct
+
+
+def packed(data):
+    return struct.pack("<I", len(data)) + data
+
+
+def pack(job, text, roots):
+    return packed(job) + packed(text) + struct.pack("<I", len(roots)) + b"".join(map(packed, roots))
+
+
+def unpack(data):
+    at = 0
+
+    def number():
+        nonlocal at
+        value = struct.unpack_from("<I", data, at)[0]
+        at += 4
+        return value
+
+    def part():
+        nonlocal at
+        size = number()
+        if at + size > len(data):
+            raise ValueError("a case is cut short")
+        at += size
+        return data[at - size:at]
+
+    while at < len(data):
+        job, text = part(), part()
+        yield job, text, [part() for _ in range(number())]

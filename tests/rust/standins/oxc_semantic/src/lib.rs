@@ -1,0 +1,3 @@
+//! Stand-in: names only.
+
+pub use oxc_syntax::reference::ReferenceFlags;
