@@ -1,7 +1,7 @@
 -- What stands at the front of a tape and is no list, by its command: a name, a value, an element or a fragment. What its check reports, from what the checks of its parts told.
 -- Assumes nothing.
-use mathlib.Core.Path.{_≡_, refl, sym, ap, subst, _∙_}
-use mathlib.Core.List.{List, [], _∷_}
+use mathlib.Core.Path.{_≡_, refl, sym, ap, _∙_}
+use mathlib.Core.List.{List}
 use Prim.Native.Nat.{ℕ, zero, suc, _+_, _≤_, _<_}
 use native.Mathlib.Numerals.{add-one}
 use native.Mathlib.Omega.{arith}
@@ -15,7 +15,7 @@ use Rattle.commands.specs.declared.root.NameCommand.the-variants as names
 use Rattle.commands.specs.declared.root.ValueCommand.{ValueCommand}
 use Rattle.commands.specs.declared.root.ValueCommand.the-variants as values
 use Rattle.commands.specs.Root.{nameCommand, valueCommand}
-use Rattle.definitions.specs.Judging.{Parsed, done, stop, _then_, map, from, named, worse}
+use Rattle.definitions.specs.Judging.{Parsed, named, worse}
 use Rattle.definitions.specs.Tree.{plain, identifier, this, namespaced, Node, element, fragment, string, nodeValue}
 use Rattle.definitions.specs.Reading.{lettered, opened, nameBy, valueBy, membersAt, nameAt, elementAt, fragmentAt, attributesAt, valueAt, childrenAt}
 use Rattle.roots.specs.declared.check.Scan.{Scan}

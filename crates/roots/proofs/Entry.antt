@@ -1,12 +1,12 @@
 -- The root: its scopes, one after the other, the element or fragment that stands in them, and that nothing more follows.
 -- Assumes nothing.
-use mathlib.Core.Path.{_≡_, refl, sym, ap, subst, _∙_}
+use mathlib.Core.Path.{_≡_, refl, sym, ap, _∙_}
 use mathlib.Core.Bool.{Bool, true, false, cond, _||_}
 use mathlib.Core.List.{List}
-use Prim.Native.Nat.{ℕ, zero, suc, _+_, _-_, _≤_, _<_}
+use Prim.Native.Nat.{ℕ, suc, _+_, _≤_, _<_}
 use native.Mathlib.Nat.{add-zero}
 use native.Mathlib.Omega.{arith}
-use lib.ListN.{length, take, drop, length-drop}
+use lib.ListN.{length, drop, length-drop}
 use lib.Dec.{ltb}
 use Rattle.text.proofs.Lists.{tail-part}
 use Rattle.tape.specs.declared.refusal.Fault.the-variants as fault
@@ -17,10 +17,9 @@ use Rattle.commands.specs.declared.root.ScopeCommand.{ScopeCommand}
 use Rattle.commands.specs.declared.root.ScopeCommand.the-variants as scopes
 use Rattle.commands.specs.Root.{heritageCommand, scopeCommand}
 use Rattle.commands.specs.Sizes.{scopeSize}
-use Rattle.commands.proofs.Lengths.{heritage-fits, scope-fits}
-use Rattle.definitions.specs.Judging.{Parsed, done, stop, _then_, map, from}
-use Rattle.definitions.specs.Tree.{Node}
-use Rattle.definitions.specs.Reading.{opened, elementAt, fragmentAt, isFunction, Scoped, inScope, unscoped, scopesBy, scopesAt, rootBy, whole, readRoot}
+use Rattle.commands.proofs.Lengths.{scope-fits}
+use Rattle.definitions.specs.Judging.{Parsed, done, stop, _then_, from}
+use Rattle.definitions.specs.Reading.{opened, elementAt, fragmentAt, isFunction, inScope, unscoped, scopesBy, scopesAt, rootBy, whole, readRoot}
 use Rattle.roots.specs.declared.check.Checked.{Checked}
 use Rattle.roots.specs.declared.check.Checked.the-variants as checks
 use Rattle.roots.specs.declared.check.Scan.{Scan}

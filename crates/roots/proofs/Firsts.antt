@@ -1,8 +1,8 @@
 -- What stands first in a list on a tape, by its command: a step of the list's check. `r` is what the code made of the scan `q`.
 -- Assumes nothing.
-use mathlib.Core.Path.{_≡_, refl, sym, ap, subst, _∙_}
-use mathlib.Core.List.{List, [], _∷_}
-use Prim.Native.Nat.{ℕ, zero, suc, _+_, _≤_, _<_}
+use mathlib.Core.Path.{_≡_, sym, ap, subst, _∙_}
+use mathlib.Core.List.{List, _∷_}
+use Prim.Native.Nat.{ℕ, suc, _≤_, _<_}
 use native.Mathlib.Omega.{arith}
 use lib.ListN.{length, drop, length-drop}
 use Rattle.text.specs.declared.spans.Span.{Span}
@@ -17,17 +17,16 @@ use Rattle.commands.specs.declared.root.PropertyCommand.the-variants as propert
 use Rattle.commands.specs.declared.root.ChildCommand.the-variants as children
 use Rattle.commands.specs.Root.{memberCommand, attributeCommand, propertyCommand, childCommand}
 use Rattle.commands.proofs.Lengths.{member-fits, attribute-fits, property-fits, child-fits}
-use Rattle.definitions.specs.Judging.{Parsed, done, stop, _then_, map, from, spanned, named, worse}
-use Rattle.definitions.specs.Tree.{unnamed, propName, Node, Attributes, attribute, namespacedAttribute, spread, literal, Value, Children, textChild, expressionChild, emptyChild, spreadChild, nodeChild}
+use Rattle.definitions.specs.Judging.{Parsed, _then_, map, from, spanned, named, worse}
+use Rattle.definitions.specs.Tree.{unnamed, propName, Attributes, attribute, namespacedAttribute, spread, literal, Value, textChild, expressionChild, emptyChild, spreadChild, nodeChild}
 use Rattle.definitions.specs.Reading.{lettered, opened, membersBy, propertiesBy, attributesBy, childrenBy, membersAt, propertiesAt, elementAt, fragmentAt, attributesAt, valueAt, childrenAt}
 use Rattle.roots.specs.declared.check.Scan.{Scan}
 use Rattle.roots.specs.declared.check.Scan.the-variants as scan
 use Rattle.roots.specs.declared.check.Step.{Step}
 use Rattle.roots.specs.declared.check.Step.the-variants as step
 use Rattle.roots.specs.Checking.{report, taken, shifted, sequel, Within, Reports, Opens, Follows, going, stepped, Moves, Steps}
-use Rattle.roots.specs.InOrder.{InOrder, Placed}
 use Rattle.roots.proofs.Scans.{stepped-going, sequel-sequel, report-from, report-map, report-then, spanned-then, named-then, lettered-then}
-use Rattle.roots.proofs.Readings.{Reads, reads, less, reads-within, named-reads, spanned-reads, lettered-reads, opened-reads, properties-reads, element-reads, fragment-reads, value-reads}
+use Rattle.roots.proofs.Readings.{reads, reads-within, named-reads, spanned-reads, lettered-reads, properties-reads, value-reads}
 use Rattle.roots.proofs.Behind.{part, reports-part, shifted-within, follows-within}
 use Rattle.roots.proofs.Commands.{element-opens-within, fragment-opens-within}
 

@@ -5,3 +5,6 @@ pub mod Loops
 pub mod Firsts
 pub mod Commands
 pub mod Entry
+pub mod Codes
+pub mod Walking
+pub mod Done

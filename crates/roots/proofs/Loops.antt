@@ -1,6 +1,6 @@
 -- A loop over a list on a tape: `Passed`, its invariant, and what each step makes of it. The list is told of by `Steps`, one step at a time.
 -- Assumes nothing.
-use mathlib.Core.Path.{_≡_, refl, sym, ap, subst, _∙_}
+use mathlib.Core.Path.{_≡_, sym, ap, subst, _∙_}
 use mathlib.Core.List.{List}
 use Prim.Native.Nat.{ℕ, zero, suc, _+_, _-_, _≤_, _<_}
 use native.Mathlib.Omega.{arith}
@@ -13,7 +13,7 @@ use Rattle.roots.specs.declared.check.Scan.{Scan}
 use Rattle.roots.specs.declared.check.Scan.the-variants as scan
 use Rattle.roots.specs.declared.check.Step.{Step}
 use Rattle.roots.specs.declared.check.Step.the-variants as step
-use Rattle.roots.specs.Checking.{report, shifted, stepped, Moves, Steps, Reports}
+use Rattle.roots.specs.Checking.{report, shifted, stepped, Moves, Steps}
 use Rattle.roots.proofs.Scans.{shifted-zero, shifted-shifted}
 
 -- i bytes are passed: `whole`, which is asked for any bound of the turns, is what is left, with as many turns as that needs

@@ -5,10 +5,10 @@
 --     members-reads, ..      each reader
 --     root-whole             a root takes the whole tape
 -- Assumes nothing.
-use mathlib.Core.Path.{_≡_, refl, sym, ap, subst, _∙_}
+use mathlib.Core.Path.{_≡_, refl, sym, subst, _∙_}
 use mathlib.Core.Bool.{Bool, true, false, cond, _||_}
-use mathlib.Core.List.{List, [], _∷_}
-use Prim.Native.Nat.{ℕ, zero, suc, _+_, _-_, _≤_, _<_}
+use mathlib.Core.List.{List, _∷_}
+use Prim.Native.Nat.{ℕ, zero, suc, _+_, _≤_}
 use native.Mathlib.Omega.{arith}
 use lib.ListN.{length, drop, length-drop}
 use lib.Dec.{eqb, leb, ltb}
@@ -42,7 +42,7 @@ use Rattle.commands.specs.declared.root.ChildCommand.the-variants as children
 use Rattle.commands.specs.Root.{heritageCommand, scopeCommand, nameCommand, memberCommand, attributeCommand, propertyCommand, valueCommand, childCommand}
 use Rattle.commands.proofs.Lengths.{heritage-fits, scope-fits, name-fits, member-fits, attribute-fits, property-fits, value-fits, child-fits}
 use Rattle.definitions.specs.Judging.{Parsed, done, stop, _then_, map, from, spanned, named, worse}
-use Rattle.definitions.specs.Tree.{Name, plain, identifier, this, namespaced, Property, unnamed, propName, Node, element, fragment, Attributes, attribute, namespacedAttribute, spread, literal, Value, string, nodeValue, Children, textChild, expressionChild, emptyChild, spreadChild, nodeChild, Root}
+use Rattle.definitions.specs.Tree.{plain, identifier, this, Property, unnamed, propName, Node, element, fragment, Attributes, attribute, namespacedAttribute, spread, literal, Value, nodeValue, Children, textChild, expressionChild, emptyChild, spreadChild, nodeChild, Root}
 use Rattle.definitions.specs.Reading.{ampersand, lettered, opened, membersBy, nameBy, propertiesBy, attributesBy, valueBy, childrenBy, scopesBy, rootBy, membersAt, nameAt, propertiesAt, elementAt, fragmentAt, attributesAt, valueAt, childrenAt, scopesAt, isFunction, Scoped, inScope, unscoped, whole, readRoot}
 use Rattle.roots.specs.declared.check.Scan.{Scan}
 use Rattle.roots.specs.Checking.{report, Within}

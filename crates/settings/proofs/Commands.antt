@@ -67,7 +67,8 @@ module _ (text : List ℕ) (p : Options) (tape : List ℕ) (i : ℕ) where
     unfolding withComments
     comment-here e = rw (comments-step, e)
 
-    pub comment-elsewhere : (getD tape i 0 ≡ 0x60 → ⊥) → withComments text p (commentsOf (drop i tape)) ≡ withComments text p (commentsOf (drop (i + 5) tape))
+    pub comment-elsewhere : (getD tape i 0 ≡ 0x60 → ⊥) → withComments text p (commentsOf (drop i tape))
+        ≡ withComments text p (commentsOf (drop (i + 5) tape))
     comment-elsewhere f = rw (comments-step, ne-eqb (getD tape i 0) 0x60 f)
 
   pub comments-over : length tape < i + 5 → withComments text p (commentsOf (drop i tape)) ≡ p
@@ -280,7 +281,10 @@ module _ (text tape : List ℕ) (n i last : ℕ) (p : Options) (h : i ≤ length
           turns = turn .0;
           opening = next-behind .opening;
           enough = omega (arith, turn .1);
-          same = turn .2 ∙ ap (judgedOptions text) (ap (from i) (next-behind .reads last _) ∙ from-from i 5 _ ∙ ap (λ (t : List ℕ). from (i + 5) (optionsFrom (turn .0) text l (next-behind .opening) t)) (drop-drop 5 i tape));
+          same = turn .2
+              ∙ ap (judgedOptions text)
+              (ap (from i) (next-behind .reads last _) ∙ from-from i 5 _
+              ∙ ap (λ (t : List ℕ). from (i + 5) (optionsFrom (turn .0) text l (next-behind .opening) t)) (drop-drop 5 i tape));
           before = next-behind .before;
           comments = r .comments ∙ next-behind .comments ∙ ap (λ (t : List ℕ). next-behind .opening .comments ++ commentsOf t) (drop-drop 5 i tape);
         }

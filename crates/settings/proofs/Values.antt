@@ -52,7 +52,8 @@ module _ (c : List ℕ) (base : ℕ) (o p : Options) (i : ℕ) (r : Comes c base
   pub past : length c ≤ i → commentFrom (length c) o base c 0 ≡ p
   past h = ended (seek-none (length c) c i (find-end isAt c i h))
 
-  module _ (k : Keyword) (a : ℕ) (hit : seek (length c) c i ≡ pragma k a) (rest value : List ℕ) (er : rest ≡ drop (valueStart c a) c) (ev : value ≡ valueOf rest) where
+  module _ (k : Keyword) (a : ℕ) (hit : seek (length c) c i ≡ pragma k a) (rest value : List ℕ) (er : rest ≡ drop (valueStart c a) c)
+      (ev : value ≡ valueOf rest) where
     pub place : (length c - length rest ≡ valueStart c a) × (i < length c - length rest) × (length rest ≤ length c) × (length value ≤ length rest)
     place =
         let l : Later c i a = seek-after (length c) c i k a hit in
@@ -83,13 +84,17 @@ module _ (c : List ℕ) (base : ℕ) (o p : Options) (i : ℕ) (r : Comes c base
 
     -- the options behind the value, and the place behind the byte that ends it
     pub onward : (length value ≡ 0 → ⊥)
-        → Comes c base o (applied p k (record { start = base + (length c - length rest); len = length value }) value) (length c - length rest + length value + 1)
+        → Comes c base o (applied p k (record { start = base + (length c - length rest); len = length value }) value)
+        (length c - length rest + length value + 1)
     unfolding onValue
     onward f =
         record {
           turns = turns-left .0;
           enough = omega (arith, turns-left .1, place);
-          same = turns-left .2 ∙ (go value f ∙ ap (λ (s : ℕ). commentFrom (turns-left .0) (applied p k (record { start = base + s; len = length value }) value) base c (s + length value + 1)) (sym (place .0)));
+          same = turns-left .2
+              ∙ (go value f
+              ∙ ap (λ (s : ℕ). commentFrom (turns-left .0) (applied p k (record { start = base + s; len = length value }) value) base c
+              (s + length value + 1)) (sym (place .0)));
         }
       where
         go : (v : List ℕ) → (length v ≡ 0 → ⊥) → onValue p k base (valueStart c a) v (λ (q : Options) (j : ℕ). commentFrom (turns-left .0) q base c j)

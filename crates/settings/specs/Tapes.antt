@@ -13,6 +13,7 @@ use Rattle.commands.specs.declared.opening.OptionCommand.the-variants as option
 use Rattle.tape.specs.declared.refusal.Fault.the-variants.{Grammar, Outside, Cuts}
 use Rattle.tape.specs.declared.refusal.Refusal.the-variants as refusal
 use Rattle.tape.specs.Numbers.{spanAt}
+use Rattle.definitions.specs.declared.options.Optional.{Optional}
 use Rattle.definitions.specs.declared.options.Optional.the-variants.{Absent, Present}
 use Rattle.definitions.specs.declared.options.Options.{Options}
 use Rattle.definitions.specs.declared.options.Settings.{Settings}
@@ -55,20 +56,26 @@ spannedBy bounds.Cuts last p = next.Stop Cuts 0
 spannedBy bounds.Empty last p = next.More last p
 spannedBy bounds.Good last p = next.More last p
 
+-- options with these for the three that a tape can give
+abbrev pub withGiven : Options → Optional → Optional → Optional → Options
+withGiven p pragma frag source =
+    record {
+      flags = p .flags;
+      pragma = pragma;
+      «pragma_frag» = frag;
+      «import_source» = source;
+      «ts_pragma» = p .«ts_pragma»;
+      «ts_pragma_frag» = p .«ts_pragma_frag»;
+    }
+
 -- the command at the front of t, the options before it being p
 unfoldable pub nextBy : List ℕ → List ℕ → Options → OptionCommand → Next
 nextBy text t p option.End = next.End
 nextBy text t p option.Wrong = next.Stop Grammar 0
 nextBy text t p option.Cut = next.Stop Grammar (length t)
-nextBy text t p (option.Pragma s) =
-    spannedBy (boundsOf text s) 0x62
-    (record { flags = p .flags; pragma = Present s; «pragma_frag» = p .«pragma_frag»; «import_source» = p .«import_source»; «ts_pragma» = p .«ts_pragma»; «ts_pragma_frag» = p .«ts_pragma_frag» })
-nextBy text t p (option.PragmaFrag s) =
-    spannedBy (boundsOf text s) 0x63
-    (record { flags = p .flags; pragma = p .pragma; «pragma_frag» = Present s; «import_source» = p .«import_source»; «ts_pragma» = p .«ts_pragma»; «ts_pragma_frag» = p .«ts_pragma_frag» })
-nextBy text t p (option.ImportSource s) =
-    spannedBy (boundsOf text s) 0x64
-    (record { flags = p .flags; pragma = p .pragma; «pragma_frag» = p .«pragma_frag»; «import_source» = Present s; «ts_pragma» = p .«ts_pragma»; «ts_pragma_frag» = p .«ts_pragma_frag» })
+nextBy text t p (option.Pragma s) = spannedBy (boundsOf text s) 0x62 (withGiven p (Present s) (p .«pragma_frag») (p .«import_source»))
+nextBy text t p (option.PragmaFrag s) = spannedBy (boundsOf text s) 0x63 (withGiven p (p .pragma) (Present s) (p .«import_source»))
+nextBy text t p (option.ImportSource s) = spannedBy (boundsOf text s) 0x64 (withGiven p (p .pragma) (p .«pragma_frag») (Present s))
 nextBy text t p (option.Comment s) = spannedBy (boundsOf text s) 0x64 p
 
 -- the options that reading gives

@@ -8,7 +8,7 @@ ghost use Rattle.text.specs.Spans.{boundsOf};
 ghost use Rattle.definitions.specs.Judging as judging;
 ghost use Rattle.definitions.specs.Opening.{bare, readOpening, overAsciiIn, ifClassic, pragmasChecked};
 ghost use Rattle.definitions.specs.Entries.{openedBy, opened};
-ghost use Rattle.settings.specs.Tapes.{optionsBefore, spannedBy, nextBy, judgedOptions, judgedBy, behindFlags, stateWith, openedTape};
+ghost use Rattle.settings.specs.Tapes.{optionsBefore, withGiven, spannedBy, nextBy, judgedOptions, judgedBy, behindFlags, stateWith, openedTape};
 use crate::comments::update_options_with_comments;
 use crate::jsx_impl::new;
 use crate::options::conform;
@@ -17,12 +17,9 @@ use commands::opening::FlagsCommand;
 use commands::opening::OptionCommand;
 use commands::opening::flags_command_at;
 use commands::opening::option_command_at;
-use definitions::options::Flags;
-use definitions::options::Form;
 use definitions::options::Mode;
 use definitions::options::Optional;
 use definitions::options::Options;
-use definitions::options::PragmaRoot;
 use definitions::options::Settings;
 use definitions::records::Import;
 use definitions::records::Record;
@@ -65,59 +62,51 @@ fn spanned(text: &[u8], span: Span, last: u8, options: Options) -> Next
     }
 }
 
+// The options with these for the three that a tape can give.
+fn with_given(
+    options: Options,
+    pragma: Optional,
+    pragma_frag: Optional,
+    import_source: Optional,
+) -> Options
+    ensures { λ r. ⌜ r ≡ withGiven options pragma «pragma_frag» «import_source» ⌝ }
+{
+    let flags = options.flags;
+    let ts_pragma = options.ts_pragma;
+    let ts_pragma_frag = options.ts_pragma_frag;
+    Options {
+        flags: flags,
+        pragma: pragma,
+        pragma_frag: pragma_frag,
+        import_source: import_source,
+        ts_pragma: ts_pragma,
+        ts_pragma_frag: ts_pragma_frag,
+    }
+}
+
 // A comment leaves the options as they are: comments are applied when the whole tape is in order.
 fn next_command(text: &[u8], last: u8, options: Options, tape: &[u8]) -> Next
     ensures { λ r. ⌜ r ≡ nextBy (now (text .entry)) (now (tape .entry)) options (optionCommand last (now (tape .entry))) ⌝ }
 {
-    let flags = options.flags;
     let pragma = options.pragma;
     let pragma_frag = options.pragma_frag;
     let import_source = options.import_source;
-    let ts_pragma = options.ts_pragma;
-    let ts_pragma_frag = options.ts_pragma_frag;
     match option_command_at(last, tape) {
         OptionCommand::End => Next::End,
         OptionCommand::Wrong => Next::Stop(Fault::Grammar, 0),
         OptionCommand::Cut => Next::Stop(Fault::Grammar, tape.len()),
-        OptionCommand::Pragma(s) => spanned(
-            text,
-            s,
-            0x62,
-            Options {
-                flags: flags,
-                pragma: Optional::Present(s),
-                pragma_frag: pragma_frag,
-                import_source: import_source,
-                ts_pragma: ts_pragma,
-                ts_pragma_frag: ts_pragma_frag,
-            },
-        ),
-        OptionCommand::PragmaFrag(s) => spanned(
-            text,
-            s,
-            0x63,
-            Options {
-                flags: flags,
-                pragma: pragma,
-                pragma_frag: Optional::Present(s),
-                import_source: import_source,
-                ts_pragma: ts_pragma,
-                ts_pragma_frag: ts_pragma_frag,
-            },
-        ),
-        OptionCommand::ImportSource(s) => spanned(
-            text,
-            s,
-            0x64,
-            Options {
-                flags: flags,
-                pragma: pragma,
-                pragma_frag: pragma_frag,
-                import_source: Optional::Present(s),
-                ts_pragma: ts_pragma,
-                ts_pragma_frag: ts_pragma_frag,
-            },
-        ),
+        OptionCommand::Pragma(s) => {
+            let given = with_given(options, Optional::Present(s), pragma_frag, import_source);
+            spanned(text, s, 0x62, given)
+        }
+        OptionCommand::PragmaFrag(s) => {
+            let given = with_given(options, pragma, Optional::Present(s), import_source);
+            spanned(text, s, 0x63, given)
+        }
+        OptionCommand::ImportSource(s) => {
+            let given = with_given(options, pragma, pragma_frag, Optional::Present(s));
+            spanned(text, s, 0x64, given)
+        }
         OptionCommand::Comment(s) => spanned(text, s, 0x64, options),
     }
 }

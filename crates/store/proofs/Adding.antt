@@ -1,7 +1,9 @@
 -- Adding an import to a store (`added` and `Holds` of specs, Adding).
 --     added-over, added-found, added-made, added-full     what it gives, by the tests that the code makes
 --     full-stays                                          a full store stays as it is
+--     holds-from                                          a store of js and any places behind them
 --     held-things, held-adds                              of a store that holds js: what it binds, and all that adding an import gives
+--     held-moved                                          the state after an accepted root is that of a store which holds what is bound then
 -- Assumes nothing.
 use mathlib.Core.Path.{_≡_, refl, sym, ap, _∙_}
 use mathlib.Core.Bool.{Bool, true, false, cond, true≢false, false≢true}
@@ -11,13 +13,14 @@ use native.Mathlib.Nat.{zero-add}
 use native.Mathlib.Numerals.{add-one}
 use native.Mathlib.Omega.{arith}
 use lib.ListN.{length, take, drop, length-append, length-map}
-use lib.Seq.{take-at, drop-cons, set-at, length-take-le}
+use lib.Seq.{take-at, drop-at, drop-cons, set-at, length-take-le}
 use lib.Dec.{ltb}
 use borrow.Author.Tests.{lt-ltb, le-ltb, ltb-true, ltb-false}
 use Rattle.definitions.specs.declared.records.Import.{Import}
 use Rattle.definitions.specs.declared.records.Record.{Record}
+use Rattle.definitions.specs.declared.state.State.{State}
 use Rattle.definitions.specs.Store.{numberIn, isBound}
-use Rattle.definitions.specs.Entries.{recordsFrom}
+use Rattle.definitions.specs.Entries.{Lowered, recordsFrom, moved}
 use Rattle.store.specs.declared.module_imports.Store.{Store}
 use Rattle.store.specs.Adding.{things, fullOf, foundIn, madeIn, added, Holds, Adds}
 use Rattle.store.proofs.Numbers.{nowhere, number-le}
@@ -57,6 +60,15 @@ full-stays s i = go (ltb 8 (s .count)) (isBound (things s) i) (ltb (s .count) 8)
     go false false false e = refl
 
 -- ---- a store that holds js
+
+pub holds-from : (js : List Import) (rest : List Record) (s : Store) → length (s .records) ≡ 8 → length js ≤ 8 → s .count ≡ length js
+    → s .records ≡ recordsFrom 0 js ++ rest → Holds (s .records) js s
+holds-from js rest s eight few counted whole = record {
+  eight = eight;
+  few = few;
+  counted = counted;
+  whole = whole ∙ ap (λ (l : List Record). recordsFrom 0 js ++ l) (sym (rw whole (drop-at (recordsFrom 0 js) rest (length js) (length-from 0 js))));
+}
 
 pub held-things : {a : List Record} {js : List Import} {s : Store} → Holds a js s → things s ≡ js
 held-things {a} {js} {s} h =
@@ -103,4 +115,16 @@ held-adds {a} {js} {s} i h = rw (held-added i h) (go (isBound js i) refl (ltb (l
       fullness = rw (bound-new js i e) (sym (lt-ltb 8 (length (js ++ i ∷ [])) (omega (arith, more, ltb-false (length js) 8 f))));
       number = λ full. absurd (true≢false full);
       holds = λ full. absurd (true≢false full);
+    }
+
+pub held-moved : (s : State) (l : Lowered) {t : Store} → Holds (s .records) (l .bound) t
+    → record { settings = s .settings; records = t .records; count = t .count; calls = s .calls + length (l .calls); notices = s .notices + length (l .notices) } ≡ moved s l
+unfolding moved
+held-moved s l h =
+    λ ι. record {
+      settings = s .settings;
+      records = h .whole ι;
+      count = h .counted ι;
+      calls = s .calls + length (l .calls);
+      notices = s .notices + length (l .notices);
     }

@@ -1,7 +1,7 @@
 -- The record tape in parts (`partTape` of specs, Tape; `recordTape` of definitions, Records).
 --     part-next                   a walk through the records of an array, at element i
 --     part-group, part-file       the parts are those of the definition
---     part-length, tape-length    how long a part and the tape are at most
+--     part-length                 how long a part is at most
 -- Assumes nothing.
 use mathlib.Core.Path.{_≡_, refl, ap}
 use mathlib.Core.Bool.{Bool, true, false, cond}

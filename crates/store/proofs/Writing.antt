@@ -29,7 +29,7 @@ use Rattle.store.specs.declared.groups.Groups.{Groups}
 use Rattle.store.specs.declared.groups.Groups.the-variants.{Empty, One, Two}
 use Rattle.store.specs.declared.record_tape.Part.the-variants.{Group, FileName}
 use Rattle.store.specs.Grouping.{sourcesOf}
-use Rattle.store.specs.Tape.{tapeOf, fitted}
+use Rattle.store.specs.Tape.{tapeOf, judgeTape}
 use Rattle.store.proofs.Tape.{part-group, part-file, part-length}
 
 abbrev pub Comes : Judged (List ℕ) → Written → List ℕ → List ℕ → Type 0
@@ -73,12 +73,12 @@ module _ (m : Mode) (g : Groups) (rs : List Record) (e : sourcesOf g ≡ groupsF
 
 -- ---- by the code's tests
 
-pub crowded : (t o : List ℕ) → length o < length t → Comes (fitted t (length o)) (Refused (Space (length t))) o o
-unfolding fitted refuse recordsAnswer recordsTarget
+pub crowded : (t o : List ℕ) → length o < length t → Comes (judgeTape t (length o)) (Refused (Space (length t))) o o
+unfolding judgeTape refuse recordsAnswer recordsTarget
 crowded t o h = rw (lt-ltb (length o) (length t) h) (refl, refl)
 
-pub roomy : (t o : List ℕ) → length t ≤ length o → Comes (fitted t (length o)) (Accepted (length t)) o (laid 0 t o)
-unfolding fitted refuse recordsAnswer recordsTarget
+pub roomy : (t o : List ℕ) → length t ≤ length o → Comes (judgeTape t (length o)) (Accepted (length t)) o (laid 0 t o)
+unfolding judgeTape refuse recordsAnswer recordsTarget
 roomy t o h = rw (le-ltb (length o) (length t) h) (refl, refl)
 
 module _ (text : List ℕ) (s : State) (o : List ℕ) where
@@ -95,6 +95,6 @@ module _ (text : List ℕ) (s : State) (o : List ℕ) where
   unsound h e f = rw (le-ltb 65535 (length text) h, e, f) (refl, refl)
 
   pub judged : length text ≤ 65535 → firstIll text ≡ Nothing → sound text s ≡ true
-      → judgeRecords text s (length o) ≡ fitted (recordTape (s .settings .mode) (live s)) (length o)
-  unfolding judgeRecords fitted refuse refuseAt
+      → judgeRecords text s (length o) ≡ judgeTape (recordTape (s .settings .mode) (live s)) (length o)
+  unfolding judgeRecords judgeTape refuse refuseAt
   judged h e f = rw (le-ltb 65535 (length text) h, e, f)

@@ -29,7 +29,7 @@ fullOf s = record { store = s; number = 0; full = true }
 abbrev pub foundIn : Store → Import → Added
 foundIn s i = record { store = s; number = numberIn (things s) i; full = false }
 
--- a record behind the others, "numbered in order of making"
+-- a record behind the others. "Bindings count from 0 in order of making"
 abbrev pub madeIn : Store → Import → Added
 madeIn s i =
     record {

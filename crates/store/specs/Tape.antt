@@ -28,5 +28,5 @@ unfoldable pub tapeOf : Mode → Groups → List Record → List ℕ
 tapeOf m g rs = groupTape rs (sourcesOf g) ++ fileNameTape (placeIn m) rs
 
 -- "target cannot take all output": the last of the tests that judge a writing of records
-unfoldable pub fitted : List ℕ → ℕ → Judged (List ℕ)
-fitted t room = refuse (ltb room (length t)) (Space (length t)) (accepted t)
+unfoldable pub judgeTape : List ℕ → ℕ → Judged (List ℕ)
+judgeTape t room = refuse (ltb room (length t)) (Space (length t)) (accepted t)

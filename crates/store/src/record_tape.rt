@@ -8,7 +8,7 @@ ghost use Rattle.tape.specs.Targets.{Wrote};
 ghost use Rattle.definitions.specs.Records.{entryIn, fileNameEntry, entriesIn, groupTape, placeIn, recordTape};
 ghost use Rattle.definitions.specs.Entries.{recordsAnswer, recordsTarget};
 ghost use Rattle.store.specs.Grouping.{sourcesOf, knownSources};
-ghost use Rattle.store.specs.Tape.{entryOf, partTape, tapeOf, fitted};
+ghost use Rattle.store.specs.Tape.{entryOf, partTape, tapeOf, judgeTape};
 use crate::groups::Groups;
 use crate::groups::groups_of;
 use definitions::options::Mode;
@@ -135,8 +135,8 @@ fn put_tape(mode: Mode, groups: Groups, records: [Record; 8], n: usize, out: &mu
 // The record tape of the first n records into the target, if it has room for all of it.
 pub fn write_tape(mode: Mode, records: [Record; 8], n: usize, target: &mut [u8]) -> Written
     requires { ⌜ (n ≤ 8) × (knownSources (take n records) ≡ true) ⌝ }
-    ensures { λ r. ⌜ r ≡ recordsAnswer (fitted (recordTape mode (take n records)) (length (now (target .entry)))) ⌝ }
-    ensures { λ _. ⌜ now (target .exit) ≡ recordsTarget (now (target .entry)) (fitted (recordTape mode (take n records)) (length (now (target .entry)))) ⌝ }
+    ensures { λ r. ⌜ r ≡ recordsAnswer (judgeTape (recordTape mode (take n records)) (length (now (target .entry)))) ⌝ }
+    ensures { λ _. ⌜ now (target .exit) ≡ recordsTarget (now (target .entry)) (judgeTape (recordTape mode (take n records)) (length (now (target .entry)))) ⌝ }
 {
     let groups = groups_of(records, n);
     let mut spare = [0u8; 1];

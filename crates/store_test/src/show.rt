@@ -48,18 +48,25 @@ fn show_written(label: &[u8], text: &[u8], state: State, target: &mut [u8]) {
     io::write_all(STDOUT_FILENO, b"\n");
 }
 
-// Writing the records into a target of `room` bytes.
-pub fn show(label: &[u8], text: &[u8], state: State, room: usize)
+// Writing the records of a state over the empty text, into a target of `room` bytes.
+pub fn show(label: &[u8], state: State, room: usize)
+    requires { ⌜ room ≤ 32 ⌝ }
+{
+    show_over(label, b"", state, room);
+}
+
+// The same over a text.
+pub fn show_over(label: &[u8], text: &[u8], state: State, room: usize)
     requires { ⌜ room ≤ 32 ⌝ }
 {
     let mut target = [0xee; 32];
     show_written(label, text, state, &mut target[0..room]);
 }
 
-// Whether a root turns the state away.
-pub fn show_forged(label: &[u8], text: &[u8], state: State, call_room: usize, notice_room: usize) {
+// Whether a root over the empty text turns the state away.
+pub fn show_forged(label: &[u8], state: State, call_room: usize, notice_room: usize) {
     io::write_all(STDOUT_FILENO, label);
-    if is_forged(text, state, call_room, notice_room) {
+    if is_forged(b"", state, call_room, notice_room) {
         io::write_all(STDOUT_FILENO, b": forged\n");
     } else {
         io::write_all(STDOUT_FILENO, b": sound\n");

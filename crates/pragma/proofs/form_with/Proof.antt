@@ -17,8 +17,10 @@ Inv-loop root behind i₀ n₀ i n = (n ≤ i) × (formWith root (partsBehind be
 abbrev μ-loop : tie.MeasureT-loop
 μ-loop root behind i₀ n₀ i n = length behind - i
 
-inside : (c : tie.After-first-length Inv-loop μ-loop) → c .before .before .before .loop .i + 1 + c .first-length .result ≤ length (c .before .before .before .before .before .args .behind .now)
-inside c = part-inside (c .before .before .before .before .before .args .behind .now) _ _ (c .before .before .loop-test .taken) (c .first-length .ensures)
+inside : (c : tie.After-first-length Inv-loop μ-loop)
+    → c .before .before .before .loop .i + 1 + c .first-length .result ≤ length (c .before .before .before .before .before .args .behind .now)
+inside c = part-inside (c .before .before .before .before .before .args .behind .now) _ _ (c .before .before .loop-test .taken)
+    (c .first-length .ensures)
 
 loop-holds : tie.Need-loop-holds Inv-loop μ-loop
 loop-holds c = (omega arith, form-start _ _)
@@ -57,7 +59,11 @@ default-form-requires : tie.Need-default-form-requires Inv-loop μ-loop
 default-form-requires c κs = search needs
 
 returns : tie.Need-returns Inv-loop μ-loop
-returns c = c .default-form .ensures ∙ sym (c .before .before .before .before .before .before .before .loop .inv .1 ∙ name-bad _ _ (c .before .before .before .before .before .before .before .before .before .args .behind .now) _ _ (c .before .before .before .before .before .before .loop-test .taken) (c .before .before .before .before .first-length .ensures) (told (c .before .before .is-identifier-name .ensures) (not-true _ (c .before .if1 .taken))))
+returns c = c .default-form .ensures
+    ∙ sym (c .before .before .before .before .before .before .before .loop .inv .1
+    ∙ name-bad _ _ (c .before .before .before .before .before .before .before .before .before .args .behind .now) _ _
+    (c .before .before .before .before .before .before .loop-test .taken) (c .before .before .before .before .first-length .ensures)
+    (told (c .before .before .is-identifier-name .ensures) (not-true _ (c .before .if1 .taken))))
 
 add-n : tie.Need-add-n Inv-loop μ-loop
 add-n c = omega (arith, inside (c .before .before .before))
@@ -66,7 +72,13 @@ loop-less : tie.Need-loop-less Inv-loop μ-loop
 loop-less c = omega (arith, inside (c .before .before .before))
 
 loop-again : tie.Need-loop-again Inv-loop μ-loop
-loop-again c = (omega arith, c .before .before .before .before .before .before .loop .inv .1 ∙ name-on _ _ (c .before .before .before .before .before .before .before .before .args .behind .now) _ _ (c .before .before .before .before .before .loop-test .taken) (c .before .before .before .first-length .ensures) (told (c .before .is-identifier-name .ensures) (not-false _ (c .if1 .left))))
+loop-again c = (
+  omega arith,
+  c .before .before .before .before .before .before .loop .inv .1
+      ∙ name-on _ _ (c .before .before .before .before .before .before .before .before .args .behind .now) _ _
+      (c .before .before .before .before .before .loop-test .taken) (c .before .before .before .first-length .ensures)
+      (told (c .before .is-identifier-name .ensures) (not-false _ (c .if1 .left))),
+)
 
 returns-2 : tie.Need-returns-2 Inv-loop μ-loop
 returns-2 c = sym (c .before .loop .inv .1 ∙ form-end _ _ _ _ (c .loop-test .left))

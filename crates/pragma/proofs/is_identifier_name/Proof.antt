@@ -16,8 +16,11 @@ Inv-loop w i₀ i = (1 ≤ i) × (allParts (drop 1 w) ≡ allParts (drop i w))
 abbrev μ-loop : tie.MeasureT-loop
 μ-loop w i₀ i = length w - i
 
-name-all : (c : tie.At-loop Inv-loop μ-loop) → isIdentifierName (c .before .before .before .before .before .before .args .w .now) ≡ allParts (drop (c .loop .i) (c .before .before .before .before .before .before .args .w .now))
-name-all c = name-first _ (c .before .before .before .before .if1 .left) ∙ rw (told (c .before .before .is-identifier-start .ensures) (not-false _ (c .before .if2 .left))) (c .loop .inv .1)
+name-all : (c : tie.At-loop Inv-loop μ-loop) → isIdentifierName (c .before .before .before .before .before .before .args .w .now)
+    ≡ allParts (drop (c .loop .i) (c .before .before .before .before .before .before .args .w .now))
+name-all c =
+    name-first _ (c .before .before .before .before .if1 .left)
+    ∙ rw (told (c .before .before .is-identifier-start .ensures) (not-false _ (c .before .if2 .left))) (c .loop .inv .1)
 
 returns : tie.Need-returns Inv-loop μ-loop
 returns c = sym (name-empty _ (c .if1 .taken))
@@ -30,7 +33,8 @@ is-identifier-start-requires : tie.Need-is-identifier-start-requires Inv-loop μ
 is-identifier-start-requires c κs = search needs
 
 returns-2 : tie.Need-returns-2 Inv-loop μ-loop
-returns-2 c = sym (name-first _ (c .before .before .before .if1 .left) ∙ rw (told (c .before .is-identifier-start .ensures) (not-true _ (c .if2 .taken))))
+returns-2 c =
+    sym (name-first _ (c .before .before .before .if1 .left) ∙ rw (told (c .before .is-identifier-start .ensures) (not-true _ (c .if2 .taken))))
 
 loop-holds : tie.Need-loop-holds Inv-loop μ-loop
 loop-holds c = (omega arith, refl)
@@ -43,7 +47,9 @@ is-identifier-part-requires : tie.Need-is-identifier-part-requires Inv-loop μ-l
 is-identifier-part-requires c κs = search needs
 
 returns-3 : tie.Need-returns-3 Inv-loop μ-loop
-returns-3 c = sym (name-all (c .before .before .before .before) ∙ all-parts-step _ _ (c .before .before .before .loop-test .taken) ∙ rw (told (c .before .is-identifier-part .ensures) (not-true _ (c .if3 .taken))))
+returns-3 c =
+    sym (name-all (c .before .before .before .before) ∙ all-parts-step _ _ (c .before .before .before .loop-test .taken)
+    ∙ rw (told (c .before .is-identifier-part .ensures) (not-true _ (c .if3 .taken))))
 
 add-i : tie.Need-add-i Inv-loop μ-loop
 add-i c = search needs
@@ -52,7 +58,11 @@ loop-less : tie.Need-loop-less Inv-loop μ-loop
 loop-less c = search needs
 
 loop-again : tie.Need-loop-again Inv-loop μ-loop
-loop-again c = (omega arith, c .before .before .before .before .loop .inv .1 ∙ all-parts-step _ _ (c .before .before .before .loop-test .taken) ∙ rw (told (c .before .is-identifier-part .ensures) (not-false _ (c .if3 .left))))
+loop-again c = (
+  omega arith,
+  c .before .before .before .before .loop .inv .1 ∙ all-parts-step _ _ (c .before .before .before .loop-test .taken)
+      ∙ rw (told (c .before .is-identifier-part .ensures) (not-false _ (c .if3 .left))),
+)
 
 returns-4 : tie.Need-returns-4 Inv-loop μ-loop
 returns-4 c = sym (name-all (c .before) ∙ all-parts-end _ _ (c .loop-test .left))

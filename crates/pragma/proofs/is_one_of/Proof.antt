@@ -16,8 +16,10 @@ Inv-loop w words i₀ i = isOneOf w (partsBehind words) ≡ isOneOf w (partsBehi
 abbrev μ-loop : tie.MeasureT-loop
 μ-loop w words i₀ i = length words - i
 
-inside : (c : tie.After-first-length Inv-loop μ-loop) → c .before .before .before .loop .i + 1 + c .first-length .result ≤ length (c .before .before .before .before .before .before .args .words .now)
-inside c = part-inside (c .before .before .before .before .before .before .args .words .now) _ _ (c .before .before .loop-test .taken) (c .first-length .ensures)
+inside : (c : tie.After-first-length Inv-loop μ-loop)
+    → c .before .before .before .loop .i + 1 + c .first-length .result ≤ length (c .before .before .before .before .before .before .args .words .now)
+inside c = part-inside (c .before .before .before .before .before .before .args .words .now) _ _ (c .before .before .loop-test .taken)
+    (c .first-length .ensures)
 
 loop-holds : tie.Need-loop-holds Inv-loop μ-loop
 loop-holds c = refl
@@ -53,13 +55,21 @@ same-requires : tie.Need-same-requires Inv-loop μ-loop
 same-requires c κs = search needs
 
 returns : tie.Need-returns Inv-loop μ-loop
-returns c = sym (c .before .before .before .before .before .before .loop .inv ∙ word-hit _ (c .before .before .before .before .before .before .before .before .before .args .words .now) _ _ (c .before .before .before .before .before .loop-test .taken) (c .before .before .before .first-length .ensures) (told (c .before .same .ensures) (c .if1 .taken)))
+returns c = sym
+    (c .before .before .before .before .before .before .loop .inv
+    ∙ word-hit _ (c .before .before .before .before .before .before .before .before .before .args .words .now) _ _
+    (c .before .before .before .before .before .loop-test .taken) (c .before .before .before .first-length .ensures)
+    (told (c .before .same .ensures) (c .if1 .taken)))
 
 loop-less : tie.Need-loop-less Inv-loop μ-loop
 loop-less c = omega (arith, inside (c .before .before .before))
 
 loop-again : tie.Need-loop-again Inv-loop μ-loop
-loop-again c = c .before .before .before .before .before .before .loop .inv ∙ word-on _ (c .before .before .before .before .before .before .before .before .before .args .words .now) _ _ (c .before .before .before .before .before .loop-test .taken) (c .before .before .before .first-length .ensures) (told (c .before .same .ensures) (c .if1 .left))
+loop-again c =
+    c .before .before .before .before .before .before .loop .inv
+    ∙ word-on _ (c .before .before .before .before .before .before .before .before .before .args .words .now) _ _
+    (c .before .before .before .before .before .loop-test .taken) (c .before .before .before .first-length .ensures)
+    (told (c .before .same .ensures) (c .if1 .left))
 
 returns-2 : tie.Need-returns-2 Inv-loop μ-loop
 unfolding isOneOf partsBehind

@@ -63,14 +63,27 @@ form-with-requires c κs = search needs
 
 returns-2 : tie.Need-returns-2
 unfolding metaForm
-returns-2 c = c .form-with .ensures ∙ sym (rw (next-part (c .before .before .before .before .before .before .before .before .before .before .args .behind .now) 0 _ (omega arith) (c .before .before .before .before .before .before .first-length .ensures), told (c .before .before .before .same .ensures) (c .before .before .if2 .taken), tail-part (c .before .before .before .before .before .before .before .before .before .before .args .behind .now)))
+returns-2 c =
+    c .form-with .ensures
+    ∙ sym (rw (
+      next-part (c .before .before .before .before .before .before .before .before .before .before .args .behind .now) 0 _ (omega arith)
+          (c .before .before .before .before .before .before .first-length .ensures),
+      told (c .before .before .before .same .ensures) (c .before .before .if2 .taken),
+      tail-part (c .before .before .before .before .before .before .before .before .before .before .args .behind .now),
+    ))
 
 default-form-requires-2 : tie.Need-default-form-requires-2
 default-form-requires-2 c κs = search needs
 
 returns-3 : tie.Need-returns-3
 unfolding metaForm
-returns-3 c = c .default-form2 .ensures ∙ sym (rw (next-part (c .before .before .before .before .before .before .before .before .before .args .behind .now) 0 _ (omega arith) (c .before .before .before .before .before .first-length .ensures), told (c .before .before .same .ensures) (c .before .if2 .left)))
+returns-3 c =
+    c .default-form2 .ensures
+    ∙ sym (rw (
+      next-part (c .before .before .before .before .before .before .before .before .before .args .behind .now) 0 _ (omega arith)
+          (c .before .before .before .before .before .first-length .ensures),
+      told (c .before .before .same .ensures) (c .before .if2 .left),
+    ))
 
 pub meta-form-spec : {M : Type 1} → statement M
 meta-form-spec =

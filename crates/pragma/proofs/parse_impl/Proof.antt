@@ -39,7 +39,11 @@ form-with-requires c κs = search needs
 
 returns : tie.Need-returns
 unfolding formOfParts
-returns c = c .form-with .ensures ∙ sym (rw (form-parts _ _ (c .before .before .before .before .before .before .first-length .ensures), told (c .before .before .same .ensures) (c .before .if1 .taken)))
+returns c = c .form-with .ensures
+    ∙ sym (rw (
+      form-parts _ _ (c .before .before .before .before .before .before .first-length .ensures),
+      told (c .before .before .same .ensures) (c .before .if1 .taken),
+    ))
 
 slice-aggregate-same-2 : tie.Need-slice-aggregate-same-2
 slice-aggregate-same-2 c = search needs
@@ -52,7 +56,13 @@ meta-form-requires c κs = search needs
 
 returns-2 : tie.Need-returns-2
 unfolding formOfParts
-returns-2 c = c .meta-form .ensures ∙ sym (rw (form-parts _ _ (c .before .before .before .before .before .before .before .before .before .first-length .ensures), told (c .before .before .before .before .before .same .ensures) (c .before .before .before .before .if1 .left), told (c .before .before .same2 .ensures) (c .before .if2 .taken)))
+returns-2 c =
+    c .meta-form .ensures
+    ∙ sym (rw (
+      form-parts _ _ (c .before .before .before .before .before .before .before .before .before .first-length .ensures),
+      told (c .before .before .before .before .before .same .ensures) (c .before .before .before .before .if1 .left),
+      told (c .before .before .same2 .ensures) (c .before .if2 .taken),
+    ))
 
 is-identifier-name-requires : tie.Need-is-identifier-name-requires
 is-identifier-name-requires c κs = search needs
@@ -62,7 +72,14 @@ default-form-requires c κs = search needs
 
 returns-3 : tie.Need-returns-3
 unfolding formOfParts
-returns-3 c = c .default-form .ensures ∙ sym (rw (form-parts _ _ (c .before .before .before .before .before .before .before .before .before .before .before .first-length .ensures), told (c .before .before .before .before .before .before .before .same .ensures) (c .before .before .before .before .before .before .if1 .left), told (c .before .before .before .before .same2 .ensures) (c .before .before .before .if2 .left), told (c .before .before .is-identifier-name .ensures) (not-true _ (c .before .if3 .taken))))
+returns-3 c =
+    c .default-form .ensures
+    ∙ sym (rw (
+      form-parts _ _ (c .before .before .before .before .before .before .before .before .before .before .before .first-length .ensures),
+      told (c .before .before .before .before .before .before .before .same .ensures) (c .before .before .before .before .before .before .if1 .left),
+      told (c .before .before .before .before .same2 .ensures) (c .before .before .before .if2 .left),
+      told (c .before .before .is-identifier-name .ensures) (not-true _ (c .before .if3 .taken)),
+    ))
 
 is-reserved-keyword-requires : tie.Need-is-reserved-keyword-requires
 is-reserved-keyword-requires c κs = search needs
@@ -72,14 +89,34 @@ default-form-requires-2 c κs = search needs
 
 returns-4 : tie.Need-returns-4
 unfolding formOfParts
-returns-4 c = c .default-form2 .ensures ∙ sym (rw (form-parts _ _ (c .before .before .before .before .before .before .before .before .before .before .before .before .before .first-length .ensures), told (c .before .before .before .before .before .before .before .before .before .same .ensures) (c .before .before .before .before .before .before .before .before .if1 .left), told (c .before .before .before .before .before .before .same2 .ensures) (c .before .before .before .before .before .if2 .left), told (c .before .before .before .before .is-identifier-name .ensures) (not-false _ (c .before .before .before .if3 .left)), told (c .before .before .is-reserved-keyword .ensures) (c .before .if4 .taken)))
+returns-4 c =
+    c .default-form2 .ensures
+    ∙ sym (rw (
+      form-parts _ _
+          (c .before .before .before .before .before .before .before .before .before .before .before .before .before .first-length .ensures),
+      told (c .before .before .before .before .before .before .before .before .before .same .ensures)
+          (c .before .before .before .before .before .before .before .before .if1 .left),
+      told (c .before .before .before .before .before .before .same2 .ensures) (c .before .before .before .before .before .if2 .left),
+      told (c .before .before .before .before .is-identifier-name .ensures) (not-false _ (c .before .before .before .if3 .left)),
+      told (c .before .before .is-reserved-keyword .ensures) (c .before .if4 .taken),
+    ))
 
 form-with-requires-2 : tie.Need-form-with-requires-2
 form-with-requires-2 c κs = search needs
 
 returns-5 : tie.Need-returns-5
 unfolding formOfParts
-returns-5 c = c .form-with2 .ensures ∙ sym (rw (form-parts _ _ (c .before .before .before .before .before .before .before .before .before .before .before .before .before .first-length .ensures), told (c .before .before .before .before .before .before .before .before .before .same .ensures) (c .before .before .before .before .before .before .before .before .if1 .left), told (c .before .before .before .before .before .before .same2 .ensures) (c .before .before .before .before .before .if2 .left), told (c .before .before .before .before .is-identifier-name .ensures) (not-false _ (c .before .before .before .if3 .left)), told (c .before .before .is-reserved-keyword .ensures) (c .before .if4 .left)))
+returns-5 c =
+    c .form-with2 .ensures
+    ∙ sym (rw (
+      form-parts _ _
+          (c .before .before .before .before .before .before .before .before .before .before .before .before .before .first-length .ensures),
+      told (c .before .before .before .before .before .before .before .before .before .same .ensures)
+          (c .before .before .before .before .before .before .before .before .if1 .left),
+      told (c .before .before .before .before .before .before .same2 .ensures) (c .before .before .before .before .before .if2 .left),
+      told (c .before .before .before .before .is-identifier-name .ensures) (not-false _ (c .before .before .before .if3 .left)),
+      told (c .before .before .is-reserved-keyword .ensures) (c .before .if4 .left),
+    ))
 
 pub parse-impl-spec : {M : Type 1} → statement M
 parse-impl-spec =

@@ -6,7 +6,8 @@ use Rattle.settings_test.proofs.read_job.Statement.{statement}
 use Rattle.settings_test.proofs.read_job.Tie as tie
 
 abbrev Inv-loop : tie.InvT-loop
-Inv-loop line text₀ tape₀ command low out₀ at₀ letter₀ i₀ text tape out at letter i = (at ≤ length text) × (length text ≡ length text₀) × (out ≤ length tape) × (length tape ≡ length tape₀)
+Inv-loop line text₀ tape₀ command low out₀ at₀ letter₀ i₀ text tape out at letter i =
+    (at ≤ length text) × (length text ≡ length text₀) × (out ≤ length tape) × (length tape ≡ length tape₀)
 
 abbrev μ-loop : tie.MeasureT-loop
 μ-loop line text₀ tape₀ command low out₀ at₀ letter₀ i₀ text tape out at letter i = length line - i

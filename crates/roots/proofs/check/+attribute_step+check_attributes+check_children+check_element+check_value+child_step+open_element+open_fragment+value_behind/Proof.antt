@@ -5,14 +5,13 @@ use Rattle.roots.proofs.Behind.{part-length, part-reach, shifted-within
 use Rattle.roots.proofs.Readings.{name-reads, properties-reads, attributes-reads, value-reads, children-reads}
 use Rattle.roots.proofs.Scans.{opened-shallow}
 use Rattle.roots.specs.Checking.{report}
-use Rattle.definitions.specs.Reading.{elementAt, fragmentAt, attributesAt, valueAt, childrenAt}
+use Rattle.definitions.specs.Reading.{attributesAt, childrenAt}
 use Rattle.commands.proofs.Lengths.{attribute-fits, value-fits, child-fits}
 use Rattle.text.proofs.Lists.{told}
 use borrow.Author.Needs.{needs}
-use Prim.Native.Nat.{ℕ, suc, _≤_, _<_, _+_, _-_, _*_}
+use Prim.Native.Nat.{ℕ, _≤_, _<_, _+_, _-_, _*_}
 use native.Mathlib.Omega.{arith}
-use mathlib.Core.Path.{_≡_, refl, sym, ap, subst, _∙_}
-use lib.ListN.{length, getD, take, drop}
+use lib.ListN.{length}
 use borrow.Fn.Kinds.{In}
 use borrow.Fn.PlainCycle.{Measures, is, falls, and}
 use Rattle.roots.proofs.check.attribute_step.Reads as attribute-step
@@ -53,12 +52,8 @@ use Rattle.roots.proofs.check.onward.Reads as onward-reads
 use Rattle.commands.proofs.root.attribute_command_at.Reads as attribute-command-at-reads
 use Rattle.commands.proofs.root.child_command_at.Reads as child-command-at-reads
 use Rattle.commands.proofs.root.value_command_at.Reads as value-command-at-reads
-use Rattle.roots.proofs.check.+attribute_step+check_attributes+check_children+check_element+check_value+child_step+open_element+open_fragment+value_behind.{
-  statement,
-}
-use Rattle.roots.proofs.check.+attribute_step+check_attributes+check_children+check_element+check_value+child_step+open_element+open_fragment+value_behind.Tie.{
-  close,
-}
+use Rattle.roots.proofs.check.+attribute_step+check_attributes+check_children+check_element+check_value+child_step+open_element+open_fragment+value_behind.{statement}
+use Rattle.roots.proofs.check.+attribute_step+check_attributes+check_children+check_element+check_value+child_step+open_element+open_fragment+value_behind.Tie.{close}
 
 abbrev μ-attribute-step : Measures 2 attribute-step-kinds.ps ℕ
 μ-attribute-step κs a = 4 * length (a .1 .0 .now) + 1
@@ -235,111 +230,84 @@ check-element-attributed t c =
     let n : (1 ≤ (c .before .before .before .before .before .before .before .name) .given .0 .0) × ((c .before .before .before .before .before .before .before .name) .given .0 .0 ≤ length ((c .before .before .before .before .before .before .before .before .before .before .before .before .args) .tape .now)) = check-element-named t ((c .before .before .before .before .before .before)) in
     within-good ((c .before .attributes) .given .1) (shifted-within (λ f t. attributes-reads f ((c .before .before .before .before .before .before .before .before .before .before .before .before .args) .text .now) ((c .before .before .before .before .before .before .before .before .before .before .before .before .args) .depth + 1) t) _ ((c .before .before .before .before .before .before .before .before .before .before .before .before .args) .tape .now) (n .0) (n .1) ((c .before .before .before .before .check-attributes) .ensures) ((c .before .before .before .further) .ensures))
 
--- src/check.rt:310:9
 attribute-step-attribute-command-at-requires : (t : ℕ) → attribute-step-lts.Need-attribute-command-at-requires (attribute-step-claims t) (attribute-step-at t) attribute-step.Post
 attribute-step-attribute-command-at-requires t c κs = search needs
 
--- src/check.rt:312:33
 attribute-step-enum-known-command : (t : ℕ) → attribute-step-lts.Need-enum-known-command (attribute-step-claims t) (attribute-step-at t) attribute-step.Post
 attribute-step-enum-known-command t c = search needs
 
--- src/check.rt:312:78
 attribute-step-check-label-requires : (t : ℕ) → attribute-step-lts.Need-check-label-requires (attribute-step-claims t) (attribute-step-at t) attribute-step.Post
 attribute-step-check-label-requires t c κs = search needs
 
--- src/check.rt:312:46
 attribute-step-value-behind-requires : (t : ℕ) → attribute-step-lts.Need-value-behind-requires (attribute-step-claims t) (attribute-step-at t) attribute-step.Post
 attribute-step-value-behind-requires t c κs = (omega arith, named-within 5 _ (omega arith) (attribute-fits _ (told ((c .before .before .before .before .attribute-command-at) .ensures) ((c .before .before .command) .given .1))) _ ((c .check-label) .ensures))
 
--- src/check.rt:312:39
 attribute-step-onward-requires : (t : ℕ) → attribute-step-lts.Need-onward-requires (attribute-step-claims t) (attribute-step-at t) attribute-step.Post
 attribute-step-onward-requires t c κs = search needs
 
--- src/check.rt:313:38
 attribute-step-enum-known-command-2 : (t : ℕ) → attribute-step-lts.Need-enum-known-command-2 (attribute-step-claims t) (attribute-step-at t) attribute-step.Post
 attribute-step-enum-known-command-2 t c = search needs
 
--- src/check.rt:313:86
 attribute-step-check-labels-requires : (t : ℕ) → attribute-step-lts.Need-check-labels-requires (attribute-step-claims t) (attribute-step-at t) attribute-step.Post
 attribute-step-check-labels-requires t c κs = search needs
 
--- src/check.rt:313:54
 attribute-step-value-behind-requires-2 : (t : ℕ) → attribute-step-lts.Need-value-behind-requires-2 (attribute-step-claims t) (attribute-step-at t) attribute-step.Post
 attribute-step-value-behind-requires-2 t c κs = (omega arith, named-within 9 _ (omega arith) (attribute-fits _ (told ((c .before .before .before .before .attribute-command-at) .ensures) ((c .before .before .command2) .given .1))) _ ((c .check-labels) .ensures))
 
--- src/check.rt:313:47
 attribute-step-onward-requires-2 : (t : ℕ) → attribute-step-lts.Need-onward-requires-2 (attribute-step-claims t) (attribute-step-at t) attribute-step.Post
 attribute-step-onward-requires-2 t c κs = search needs
 
--- src/check.rt:314:40
 attribute-step-enum-told : (t : ℕ) → attribute-step-lts.Need-enum-told (attribute-step-claims t) (attribute-step-at t) attribute-step.Post
 attribute-step-enum-told t c = search needs
 
--- src/check.rt:315:82
 attribute-step-enum-told-2 : (t : ℕ) → attribute-step-lts.Need-enum-told-2 (attribute-step-claims t) (attribute-step-at t) attribute-step.Post
 attribute-step-enum-told-2 t c = search needs
 
--- src/check.rt:315:82
 attribute-step-sub-check-properties : (t : ℕ) → attribute-step-lts.Need-sub-check-properties (attribute-step-claims t) (attribute-step-at t) attribute-step.Post
 attribute-step-sub-check-properties t c = omega (arith, attribute-fits _ (told ((c .before .before .attribute-command-at) .ensures) ((c .enum-told2) .given .1)))
 
--- src/check.rt:315:82
 attribute-step-part-check-properties-start : (t : ℕ) → attribute-step-lts.Need-part-check-properties-start (attribute-step-claims t) (attribute-step-at t) attribute-step.Post
 attribute-step-part-check-properties-start t c = omega (arith, attribute-fits _ (told ((c .before .before .attribute-command-at) .ensures) ((c .enum-told2) .given .1)))
 
--- src/check.rt:315:82
 attribute-step-part-check-properties-end : (t : ℕ) → attribute-step-lts.Need-part-check-properties-end (attribute-step-claims t) (attribute-step-at t) attribute-step.Post
 attribute-step-part-check-properties-end t c = search needs
 
--- src/check.rt:315:59
 attribute-step-check-properties-requires : (t : ℕ) → attribute-step-lts.Need-check-properties-requires (attribute-step-claims t) (attribute-step-at t) attribute-step.Post
 attribute-step-check-properties-requires t c κs = search needs
 
--- src/check.rt:315:48
 attribute-step-further-requires : (t : ℕ) → attribute-step-lts.Need-further-requires (attribute-step-claims t) (attribute-step-at t) attribute-step.Post
 attribute-step-further-requires t c κs = omega (arith, part-reach (λ f t. properties-reads f ((c .before .before .before .before .before .before .before .args) .text .now) t) 3 ((c .before .before .before .before .before .before .before .args) .tape .now) (attribute-fits _ (told ((c .before .before .before .before .attribute-command-at) .ensures) ((c .before .before .enum-told2) .given .1))) ((c .check-properties) .ensures))
 
--- src/check.rt:315:41
 attribute-step-onward-requires-3 : (t : ℕ) → attribute-step-lts.Need-onward-requires-3 (attribute-step-claims t) (attribute-step-at t) attribute-step.Post
 attribute-step-onward-requires-3 t c κs = search needs
 
--- src/check.rt:316:34
 attribute-step-enum-told-3 : (t : ℕ) → attribute-step-lts.Need-enum-told-3 (attribute-step-claims t) (attribute-step-at t) attribute-step.Post
 attribute-step-enum-told-3 t c = search needs
 
--- src/check.rt:317:46
 attribute-step-enum-told-4 : (t : ℕ) → attribute-step-lts.Need-enum-told-4 (attribute-step-claims t) (attribute-step-at t) attribute-step.Post
 attribute-step-enum-told-4 t c = search needs
 
--- src/check.rt:318:44
 attribute-step-enum-told-5 : (t : ℕ) → attribute-step-lts.Need-enum-told-5 (attribute-step-claims t) (attribute-step-at t) attribute-step.Post
 attribute-step-enum-told-5 t c = search needs
 
--- src/check.rt:307:1
 attribute-step-returns : (t : ℕ) → attribute-step-lts.Need-returns (attribute-step-claims t) (attribute-step-at t) attribute-step.Post
 attribute-step-returns t c = attributes-plain _ _ _ _ (told ((c .before .before .before .before .before .before .attribute-command-at) .ensures) ((c .before .before .before .before .command) .given .1)) ((c .before .before .check-label) .ensures) ((c .before .value-behind) .ensures) ((c .onward) .ensures)
 
--- src/check.rt:307:1
 attribute-step-returns-2 : (t : ℕ) → attribute-step-lts.Need-returns-2 (attribute-step-claims t) (attribute-step-at t) attribute-step.Post
 attribute-step-returns-2 t c = attributes-namespaced _ _ _ _ _ (told ((c .before .before .before .before .before .before .attribute-command-at) .ensures) ((c .before .before .before .before .command2) .given .1)) ((c .before .before .check-labels) .ensures) ((c .before .value-behind2) .ensures) ((c .onward2) .ensures)
 
--- src/check.rt:307:1
 attribute-step-returns-3 : (t : ℕ) → attribute-step-lts.Need-returns-3 (attribute-step-claims t) (attribute-step-at t) attribute-step.Post
 attribute-step-returns-3 t c = attributes-spread _ _ _ _ (told ((c .before .before .attribute-command-at) .ensures) ((c .enum-told) .given .1))
 
--- src/check.rt:307:1
 attribute-step-returns-4 : (t : ℕ) → attribute-step-lts.Need-returns-4 (attribute-step-claims t) (attribute-step-at t) attribute-step.Post
 attribute-step-returns-4 t c = attributes-literal _ _ _ _ (told ((c .before .before .before .before .before .before .attribute-command-at) .ensures) ((c .before .before .before .before .enum-told2) .given .1)) ((c .before .before .check-properties) .ensures) ((c .before .further) .ensures) ((c .onward3) .ensures)
 
--- src/check.rt:307:1
 attribute-step-returns-5 : (t : ℕ) → attribute-step-lts.Need-returns-5 (attribute-step-claims t) (attribute-step-at t) attribute-step.Post
 attribute-step-returns-5 t c = attributes-end _ _ _ (told ((c .before .before .attribute-command-at) .ensures) ((c .enum-told3) .given .1))
 
--- src/check.rt:307:1
 attribute-step-returns-6 : (t : ℕ) → attribute-step-lts.Need-returns-6 (attribute-step-claims t) (attribute-step-at t) attribute-step.Post
 attribute-step-returns-6 t c = attributes-wrong _ _ _ (told ((c .before .before .attribute-command-at) .ensures) ((c .enum-told4) .given .1))
 
--- src/check.rt:307:1
 attribute-step-returns-7 : (t : ℕ) → attribute-step-lts.Need-returns-7 (attribute-step-claims t) (attribute-step-at t) attribute-step.Post
 attribute-step-returns-7 t c = attributes-cut _ _ _ (told ((c .before .before .attribute-command-at) .ensures) ((c .enum-told5) .given .1))
 
@@ -349,63 +317,48 @@ check-attributes-Inv-loop text tape depth i₀ i = Passed (λ f. report (attribu
 abbrev check-attributes-μ-loop : check-attributes-lts.MeasureT-loop
 check-attributes-μ-loop text tape depth i₀ i = length tape - i
 
--- src/check.rt:326:5
 check-attributes-loop-holds : (t : ℕ) → check-attributes-lts.Need-loop-holds (check-attributes-claims t) (check-attributes-at t) check-attributes.Post check-attributes-Inv-loop check-attributes-μ-loop
 check-attributes-loop-holds t c = passed-none _ _
 
--- src/check.rt:327:41
 check-attributes-sub-attribute-step : (t : ℕ) → check-attributes-lts.Need-sub-attribute-step (check-attributes-claims t) (check-attributes-at t) check-attributes.Post check-attributes-Inv-loop check-attributes-μ-loop
 check-attributes-sub-attribute-step t c = omega (arith, (c .loop) .inv .inside)
 
--- src/check.rt:327:41
 check-attributes-part-attribute-step-start : (t : ℕ) → check-attributes-lts.Need-part-attribute-step-start (check-attributes-claims t) (check-attributes-at t) check-attributes.Post check-attributes-Inv-loop check-attributes-μ-loop
 check-attributes-part-attribute-step-start t c = omega (arith, (c .loop) .inv .inside)
 
--- src/check.rt:327:41
 check-attributes-part-attribute-step-end : (t : ℕ) → check-attributes-lts.Need-part-attribute-step-end (check-attributes-claims t) (check-attributes-at t) check-attributes.Post check-attributes-Inv-loop check-attributes-μ-loop
 check-attributes-part-attribute-step-end t c = search needs
 
--- src/check.rt:327:13
 check-attributes-attribute-step-requires : (t : ℕ) → check-attributes-lts.Need-attribute-step-requires (check-attributes-claims t) (check-attributes-at t) check-attributes.Post check-attributes-Inv-loop check-attributes-μ-loop
 check-attributes-attribute-step-requires t c κs = omega (arith, part-length ((c .before .loop) .i) ((c .before .before .before .before .args) .tape .now))
 
--- src/check.rt:329:24
 check-attributes-enum-known-step : (t : ℕ) → check-attributes-lts.Need-enum-known-step (check-attributes-claims t) (check-attributes-at t) check-attributes.Post check-attributes-Inv-loop check-attributes-μ-loop
 check-attributes-enum-known-step t c = search needs
 
--- src/check.rt:330:21
 check-attributes-add-i : (t : ℕ) → check-attributes-lts.Need-add-i (check-attributes-claims t) (check-attributes-at t) check-attributes.Post check-attributes-Inv-loop check-attributes-μ-loop
 check-attributes-add-i t c = omega (arith, passed-next ((c .before .before .before .before .before .loop) .inv) ((c .before .before .before .attribute-step) .ensures) ((c .before .step) .given .1) .inside)
 
--- src/check.rt:326:5
 check-attributes-loop-less : (t : ℕ) → check-attributes-lts.Need-loop-less (check-attributes-claims t) (check-attributes-at t) check-attributes.Post check-attributes-Inv-loop check-attributes-μ-loop
 check-attributes-loop-less t c = next-less ((c .before .before .before .before .before .loop) .inv) ((c .before .before .before .attribute-step) .ensures) ((c .before .step) .given .1)
 
--- src/check.rt:326:5
 check-attributes-loop-again : (t : ℕ) → check-attributes-lts.Need-loop-again (check-attributes-claims t) (check-attributes-at t) check-attributes.Post check-attributes-Inv-loop check-attributes-μ-loop
 check-attributes-loop-again t c = passed-next ((c .before .before .before .before .before .loop) .inv) ((c .before .before .before .attribute-step) .ensures) ((c .before .step) .given .1)
 
--- src/check.rt:332:23
 check-attributes-enum-known-step-2 : (t : ℕ) → check-attributes-lts.Need-enum-known-step-2 (check-attributes-claims t) (check-attributes-at t) check-attributes.Post check-attributes-Inv-loop check-attributes-μ-loop
 check-attributes-enum-known-step-2 t c = search needs
 
--- src/check.rt:333:35
 check-attributes-add-t14 : (t : ℕ) → check-attributes-lts.Need-add-t14 (check-attributes-claims t) (check-attributes-at t) check-attributes.Post check-attributes-Inv-loop check-attributes-μ-loop
 check-attributes-add-t14 t c = omega (arith, end-inside ((c .before .before .before .before .before .loop) .inv) ((c .before .before .before .attribute-step) .ensures) ((c .before .step2) .given .1))
 
--- src/check.rt:333:17
 check-attributes-returns : (t : ℕ) → check-attributes-lts.Need-returns (check-attributes-claims t) (check-attributes-at t) check-attributes.Post check-attributes-Inv-loop check-attributes-μ-loop
 check-attributes-returns t c = record { tells = passed-end ((c .before .before .before .before .before .loop) .inv) ((c .before .before .before .attribute-step) .ensures) ((c .before .step2) .given .1) }
 
--- src/check.rt:335:23
 check-attributes-enum-known-step-3 : (t : ℕ) → check-attributes-lts.Need-enum-known-step-3 (check-attributes-claims t) (check-attributes-at t) check-attributes.Post check-attributes-Inv-loop check-attributes-μ-loop
 check-attributes-enum-known-step-3 t c = search needs
 
--- src/check.rt:336:37
 check-attributes-add-t15 : (t : ℕ) → check-attributes-lts.Need-add-t15 (check-attributes-claims t) (check-attributes-at t) check-attributes.Post check-attributes-Inv-loop check-attributes-μ-loop
 check-attributes-add-t15 t c = omega (arith, bad-inside ((c .before .before .before .before .before .loop) .inv) ((c .before .before .before .attribute-step) .ensures) ((c .before .step3) .given .1))
 
--- src/check.rt:336:17
 check-attributes-returns-2 : (t : ℕ) → check-attributes-lts.Need-returns-2 (check-attributes-claims t) (check-attributes-at t) check-attributes.Post check-attributes-Inv-loop check-attributes-μ-loop
 check-attributes-returns-2 t c = record { tells = passed-bad ((c .before .before .before .before .before .loop) .inv) ((c .before .before .before .attribute-step) .ensures) ((c .before .step3) .given .1) }
 
@@ -415,441 +368,333 @@ check-children-Inv-loop text tape depth i₀ i = Passed (λ f. report (childrenA
 abbrev check-children-μ-loop : check-children-lts.MeasureT-loop
 check-children-μ-loop text tape depth i₀ i = length tape - i
 
--- src/check.rt:390:5
 check-children-loop-holds : (t : ℕ) → check-children-lts.Need-loop-holds (check-children-claims t) (check-children-at t) check-children.Post check-children-Inv-loop check-children-μ-loop
 check-children-loop-holds t c = passed-none _ _
 
--- src/check.rt:391:37
 check-children-sub-child-step : (t : ℕ) → check-children-lts.Need-sub-child-step (check-children-claims t) (check-children-at t) check-children.Post check-children-Inv-loop check-children-μ-loop
 check-children-sub-child-step t c = omega (arith, (c .loop) .inv .inside)
 
--- src/check.rt:391:37
 check-children-part-child-step-start : (t : ℕ) → check-children-lts.Need-part-child-step-start (check-children-claims t) (check-children-at t) check-children.Post check-children-Inv-loop check-children-μ-loop
 check-children-part-child-step-start t c = omega (arith, (c .loop) .inv .inside)
 
--- src/check.rt:391:37
 check-children-part-child-step-end : (t : ℕ) → check-children-lts.Need-part-child-step-end (check-children-claims t) (check-children-at t) check-children.Post check-children-Inv-loop check-children-μ-loop
 check-children-part-child-step-end t c = search needs
 
--- src/check.rt:391:13
 check-children-child-step-requires : (t : ℕ) → check-children-lts.Need-child-step-requires (check-children-claims t) (check-children-at t) check-children.Post check-children-Inv-loop check-children-μ-loop
 check-children-child-step-requires t c κs = omega (arith, part-length ((c .before .loop) .i) ((c .before .before .before .before .args) .tape .now))
 
--- src/check.rt:393:24
 check-children-enum-known-step : (t : ℕ) → check-children-lts.Need-enum-known-step (check-children-claims t) (check-children-at t) check-children.Post check-children-Inv-loop check-children-μ-loop
 check-children-enum-known-step t c = search needs
 
--- src/check.rt:394:21
 check-children-add-i : (t : ℕ) → check-children-lts.Need-add-i (check-children-claims t) (check-children-at t) check-children.Post check-children-Inv-loop check-children-μ-loop
 check-children-add-i t c = omega (arith, passed-next ((c .before .before .before .before .before .loop) .inv) ((c .before .before .before .child-step) .ensures) ((c .before .step) .given .1) .inside)
 
--- src/check.rt:390:5
 check-children-loop-less : (t : ℕ) → check-children-lts.Need-loop-less (check-children-claims t) (check-children-at t) check-children.Post check-children-Inv-loop check-children-μ-loop
 check-children-loop-less t c = next-less ((c .before .before .before .before .before .loop) .inv) ((c .before .before .before .child-step) .ensures) ((c .before .step) .given .1)
 
--- src/check.rt:390:5
 check-children-loop-again : (t : ℕ) → check-children-lts.Need-loop-again (check-children-claims t) (check-children-at t) check-children.Post check-children-Inv-loop check-children-μ-loop
 check-children-loop-again t c = passed-next ((c .before .before .before .before .before .loop) .inv) ((c .before .before .before .child-step) .ensures) ((c .before .step) .given .1)
 
--- src/check.rt:396:23
 check-children-enum-known-step-2 : (t : ℕ) → check-children-lts.Need-enum-known-step-2 (check-children-claims t) (check-children-at t) check-children.Post check-children-Inv-loop check-children-μ-loop
 check-children-enum-known-step-2 t c = search needs
 
--- src/check.rt:397:35
 check-children-add-t14 : (t : ℕ) → check-children-lts.Need-add-t14 (check-children-claims t) (check-children-at t) check-children.Post check-children-Inv-loop check-children-μ-loop
 check-children-add-t14 t c = omega (arith, end-inside ((c .before .before .before .before .before .loop) .inv) ((c .before .before .before .child-step) .ensures) ((c .before .step2) .given .1))
 
--- src/check.rt:397:17
 check-children-returns : (t : ℕ) → check-children-lts.Need-returns (check-children-claims t) (check-children-at t) check-children.Post check-children-Inv-loop check-children-μ-loop
 check-children-returns t c = record { tells = passed-end ((c .before .before .before .before .before .loop) .inv) ((c .before .before .before .child-step) .ensures) ((c .before .step2) .given .1) }
 
--- src/check.rt:399:23
 check-children-enum-known-step-3 : (t : ℕ) → check-children-lts.Need-enum-known-step-3 (check-children-claims t) (check-children-at t) check-children.Post check-children-Inv-loop check-children-μ-loop
 check-children-enum-known-step-3 t c = search needs
 
--- src/check.rt:400:37
 check-children-add-t15 : (t : ℕ) → check-children-lts.Need-add-t15 (check-children-claims t) (check-children-at t) check-children.Post check-children-Inv-loop check-children-μ-loop
 check-children-add-t15 t c = omega (arith, bad-inside ((c .before .before .before .before .before .loop) .inv) ((c .before .before .before .child-step) .ensures) ((c .before .step3) .given .1))
 
--- src/check.rt:400:17
 check-children-returns-2 : (t : ℕ) → check-children-lts.Need-returns-2 (check-children-claims t) (check-children-at t) check-children.Post check-children-Inv-loop check-children-μ-loop
 check-children-returns-2 t c = record { tells = passed-bad ((c .before .before .before .before .before .loop) .inv) ((c .before .before .before .child-step) .ensures) ((c .before .step3) .given .1) }
 
--- src/check.rt:296:9
 check-element-check-name-requires : (t : ℕ) → check-element-lts.Need-check-name-requires (check-element-claims t) (check-element-at t) check-element.Post
 check-element-check-name-requires t c κs = search needs
 
--- src/check.rt:297:20
 check-element-enum-known-name : (t : ℕ) → check-element-lts.Need-enum-known-name (check-element-claims t) (check-element-at t) check-element.Post
 check-element-enum-known-name t c = search needs
 
--- src/check.rt:298:9
 check-element-enum-told : (t : ℕ) → check-element-lts.Need-enum-told (check-element-claims t) (check-element-at t) check-element.Post
 check-element-enum-told t c = search needs
 
--- src/check.rt:298:9
 check-element-returns : (t : ℕ) → check-element-lts.Need-returns (check-element-claims t) (check-element-at t) check-element.Post
 check-element-returns t c = element-no-name _ _ _ ((c .before .before .check-name) .ensures) ((c .enum-told) .given .1)
 
--- src/check.rt:300:56
 check-element-sub-check-attributes : (t : ℕ) → check-element-lts.Need-sub-check-attributes (check-element-claims t) (check-element-at t) check-element.Post
 check-element-sub-check-attributes t c = omega (arith, check-element-named t (c))
 
--- src/check.rt:300:56
 check-element-part-check-attributes-start : (t : ℕ) → check-element-lts.Need-part-check-attributes-start (check-element-claims t) (check-element-at t) check-element.Post
 check-element-part-check-attributes-start t c = omega (arith, check-element-named t (c))
 
--- src/check.rt:300:56
 check-element-part-check-attributes-end : (t : ℕ) → check-element-lts.Need-part-check-attributes-end (check-element-claims t) (check-element-at t) check-element.Post
 check-element-part-check-attributes-end t c = search needs
 
--- src/check.rt:300:68
 check-element-add-check-attributes : (t : ℕ) → check-element-lts.Need-add-check-attributes (check-element-claims t) (check-element-at t) check-element.Post
 check-element-add-check-attributes t c = search needs
 
--- src/check.rt:300:33
 check-element-check-attributes-requires : (t : ℕ) → check-element-lts.Need-check-attributes-requires (check-element-claims t) (check-element-at t) check-element.Post
 check-element-check-attributes-requires t c κs = omega (arith, part-length ((c .before .before .name) .given .0 .0) ((c .before .before .before .before .before .before .before .args) .tape .now))
 
--- src/check.rt:300:9
 check-element-further-requires : (t : ℕ) → check-element-lts.Need-further-requires (check-element-claims t) (check-element-at t) check-element.Post
 check-element-further-requires t c κs = omega (arith, part-reach (λ f t. attributes-reads f ((c .before .before .before .before .before .before .before .before .args) .text .now) ((c .before .before .before .before .before .before .before .before .args) .depth + 1) t) ((c .before .before .before .name) .given .0 .0) ((c .before .before .before .before .before .before .before .before .args) .tape .now) (check-element-named t ((c .before .before)) .1) ((c .check-attributes) .ensures))
 
--- src/check.rt:301:20
 check-element-enum-known-attributes : (t : ℕ) → check-element-lts.Need-enum-known-attributes (check-element-claims t) (check-element-at t) check-element.Post
 check-element-enum-known-attributes t c = search needs
 
--- src/check.rt:302:9
 check-element-enum-told-2 : (t : ℕ) → check-element-lts.Need-enum-told-2 (check-element-claims t) (check-element-at t) check-element.Post
 check-element-enum-told-2 t c = search needs
 
--- src/check.rt:302:9
 check-element-returns-2 : (t : ℕ) → check-element-lts.Need-returns-2 (check-element-claims t) (check-element-at t) check-element.Post
 check-element-returns-2 t c = element-no-attributes _ _ _ ((c .before .before .before .before .before .before .before .before .check-name) .ensures) ((c .before .before .before .before .before .before .name) .given .1) (check-element-named t ((c .before .before .before .before .before)) .1) ((c .before .before .before .check-attributes) .ensures) ((c .before .before .further) .ensures) ((c .enum-told2) .given .1)
 
--- src/check.rt:304:37
 check-element-sub-check-children : (t : ℕ) → check-element-lts.Need-sub-check-children (check-element-claims t) (check-element-at t) check-element.Post
 check-element-sub-check-children t c = omega (arith, check-element-attributed t (c))
 
--- src/check.rt:304:37
 check-element-part-check-children-start : (t : ℕ) → check-element-lts.Need-part-check-children-start (check-element-claims t) (check-element-at t) check-element.Post
 check-element-part-check-children-start t c = omega (arith, check-element-attributed t (c))
 
--- src/check.rt:304:37
 check-element-part-check-children-end : (t : ℕ) → check-element-lts.Need-part-check-children-end (check-element-claims t) (check-element-at t) check-element.Post
 check-element-part-check-children-end t c = search needs
 
--- src/check.rt:304:49
 check-element-add-check-children : (t : ℕ) → check-element-lts.Need-add-check-children (check-element-claims t) (check-element-at t) check-element.Post
 check-element-add-check-children t c = search needs
 
--- src/check.rt:304:16
 check-element-check-children-requires : (t : ℕ) → check-element-lts.Need-check-children-requires (check-element-claims t) (check-element-at t) check-element.Post
 check-element-check-children-requires t c κs = omega (arith, part-length ((c .before .before .attributes) .given .0 .0) ((c .before .before .before .before .before .before .before .before .before .before .before .before .before .args) .tape .now))
 
--- src/check.rt:304:5
 check-element-further-requires-2 : (t : ℕ) → check-element-lts.Need-further-requires-2 (check-element-claims t) (check-element-at t) check-element.Post
 check-element-further-requires-2 t c κs = omega (arith, part-reach (λ f t. children-reads f ((c .before .before .before .before .before .before .before .before .before .before .before .before .before .before .args) .text .now) ((c .before .before .before .before .before .before .before .before .before .before .before .before .before .before .args) .depth + 1) t) ((c .before .before .before .attributes) .given .0 .0) ((c .before .before .before .before .before .before .before .before .before .before .before .before .before .before .args) .tape .now) (check-element-attributed t ((c .before .before)) .1) ((c .check-children) .ensures))
 
--- src/check.rt:292:1
 check-element-returns-3 : (t : ℕ) → check-element-lts.Need-returns-3 (check-element-claims t) (check-element-at t) check-element.Post
 check-element-returns-3 t c = element-whole _ _ _ ((c .before .before .before .before .before .before .before .before .before .before .before .before .check-name) .ensures) ((c .before .before .before .before .before .before .before .before .before .before .name) .given .1) (check-element-named t ((c .before .before .before .before .before .before .before .before .before)) .1) ((c .before .before .before .before .before .before .before .check-attributes) .ensures) ((c .before .before .before .before .before .before .further) .ensures) ((c .before .before .before .before .attributes) .given .1) (check-element-attributed t ((c .before .before .before)) .1) ((c .before .check-children) .ensures) ((c .further2) .ensures)
 
--- src/check.rt:356:9
 check-value-value-command-at-requires : (t : ℕ) → check-value-lts.Need-value-command-at-requires (check-value-claims t) (check-value-at t) check-value.Post
 check-value-value-command-at-requires t c κs = search needs
 
--- src/check.rt:358:33
 check-value-enum-told : (t : ℕ) → check-value-lts.Need-enum-told (check-value-claims t) (check-value-at t) check-value.Post
 check-value-enum-told t c = search needs
 
--- src/check.rt:359:28
 check-value-enum-known-command : (t : ℕ) → check-value-lts.Need-enum-known-command (check-value-claims t) (check-value-at t) check-value.Post
 check-value-enum-known-command t c = search needs
 
--- src/check.rt:359:34
 check-value-check-text-requires : (t : ℕ) → check-value-lts.Need-check-text-requires (check-value-claims t) (check-value-at t) check-value.Post
 check-value-check-text-requires t c κs = search needs
 
--- src/check.rt:360:40
 check-value-enum-told-2 : (t : ℕ) → check-value-lts.Need-enum-told-2 (check-value-claims t) (check-value-at t) check-value.Post
 check-value-enum-told-2 t c = search needs
 
--- src/check.rt:361:32
 check-value-enum-told-3 : (t : ℕ) → check-value-lts.Need-enum-told-3 (check-value-claims t) (check-value-at t) check-value.Post
 check-value-enum-told-3 t c = search needs
 
--- src/check.rt:362:31
 check-value-enum-known-command-2 : (t : ℕ) → check-value-lts.Need-enum-known-command-2 (check-value-claims t) (check-value-at t) check-value.Post
 check-value-enum-known-command-2 t c = search needs
 
--- src/check.rt:362:37
 check-value-open-element-requires : (t : ℕ) → check-value-lts.Need-open-element-requires (check-value-claims t) (check-value-at t) check-value.Post
 check-value-open-element-requires t c κs = (omega arith, value-fits _ (told ((c .before .before .before .value-command-at) .ensures) ((c .before .command2) .given .1)))
 
--- src/check.rt:363:32
 check-value-enum-known-command-3 : (t : ℕ) → check-value-lts.Need-enum-known-command-3 (check-value-claims t) (check-value-at t) check-value.Post
 check-value-enum-known-command-3 t c = search needs
 
--- src/check.rt:363:38
 check-value-open-fragment-requires : (t : ℕ) → check-value-lts.Need-open-fragment-requires (check-value-claims t) (check-value-at t) check-value.Post
 check-value-open-fragment-requires t c κs = (omega arith, value-fits _ (told ((c .before .before .before .value-command-at) .ensures) ((c .before .command3) .given .1)))
 
--- src/check.rt:364:42
 check-value-enum-told-4 : (t : ℕ) → check-value-lts.Need-enum-told-4 (check-value-claims t) (check-value-at t) check-value.Post
 check-value-enum-told-4 t c = search needs
 
--- src/check.rt:365:40
 check-value-enum-told-5 : (t : ℕ) → check-value-lts.Need-enum-told-5 (check-value-claims t) (check-value-at t) check-value.Post
 check-value-enum-told-5 t c = search needs
 
--- src/check.rt:353:1
 check-value-returns : (t : ℕ) → check-value-lts.Need-returns (check-value-claims t) (check-value-at t) check-value.Post
 check-value-returns t c = value-absent _ _ _ (told ((c .before .before .value-command-at) .ensures) ((c .enum-told) .given .1))
 
--- src/check.rt:353:1
 check-value-returns-2 : (t : ℕ) → check-value-lts.Need-returns-2 (check-value-claims t) (check-value-at t) check-value.Post
 check-value-returns-2 t c = value-text _ _ _ _ (told ((c .before .before .before .before .value-command-at) .ensures) ((c .before .before .command) .given .1)) ((c .check-text) .ensures)
 
--- src/check.rt:353:1
 check-value-returns-3 : (t : ℕ) → check-value-lts.Need-returns-3 (check-value-claims t) (check-value-at t) check-value.Post
 check-value-returns-3 t c = value-expression _ _ _ _ (told ((c .before .before .value-command-at) .ensures) ((c .enum-told2) .given .1))
 
--- src/check.rt:353:1
 check-value-returns-4 : (t : ℕ) → check-value-lts.Need-returns-4 (check-value-claims t) (check-value-at t) check-value.Post
 check-value-returns-4 t c = value-empty _ _ _ (told ((c .before .before .value-command-at) .ensures) ((c .enum-told3) .given .1))
 
--- src/check.rt:353:1
 check-value-returns-5 : (t : ℕ) → check-value-lts.Need-returns-5 (check-value-claims t) (check-value-at t) check-value.Post
 check-value-returns-5 t c = value-element _ _ _ _ (told ((c .before .before .before .before .value-command-at) .ensures) ((c .before .before .command2) .given .1)) ((c .open-element) .ensures)
 
--- src/check.rt:353:1
 check-value-returns-6 : (t : ℕ) → check-value-lts.Need-returns-6 (check-value-claims t) (check-value-at t) check-value.Post
 check-value-returns-6 t c = value-fragment _ _ _ _ (told ((c .before .before .before .before .value-command-at) .ensures) ((c .before .before .command3) .given .1)) ((c .open-fragment) .ensures)
 
--- src/check.rt:353:1
 check-value-returns-7 : (t : ℕ) → check-value-lts.Need-returns-7 (check-value-claims t) (check-value-at t) check-value.Post
 check-value-returns-7 t c = value-wrong _ _ _ (told ((c .before .before .value-command-at) .ensures) ((c .enum-told4) .given .1))
 
--- src/check.rt:353:1
 check-value-returns-8 : (t : ℕ) → check-value-lts.Need-returns-8 (check-value-claims t) (check-value-at t) check-value.Post
 check-value-returns-8 t c = value-cut _ _ _ (told ((c .before .before .value-command-at) .ensures) ((c .enum-told5) .given .1))
 
--- src/check.rt:372:9
 child-step-child-command-at-requires : (t : ℕ) → child-step-lts.Need-child-command-at-requires (child-step-claims t) (child-step-at t) child-step.Post
 child-step-child-command-at-requires t c κs = search needs
 
--- src/check.rt:374:28
 child-step-enum-known-command : (t : ℕ) → child-step-lts.Need-enum-known-command (child-step-claims t) (child-step-at t) child-step.Post
 child-step-enum-known-command t c = search needs
 
--- src/check.rt:374:41
 child-step-check-text-requires : (t : ℕ) → child-step-lts.Need-check-text-requires (child-step-claims t) (child-step-at t) child-step.Post
 child-step-check-text-requires t c κs = search needs
 
--- src/check.rt:374:34
 child-step-onward-requires : (t : ℕ) → child-step-lts.Need-onward-requires (child-step-claims t) (child-step-at t) child-step.Post
 child-step-onward-requires t c κs = search needs
 
--- src/check.rt:375:40
 child-step-enum-told : (t : ℕ) → child-step-lts.Need-enum-told (child-step-claims t) (child-step-at t) child-step.Post
 child-step-enum-told t c = search needs
 
--- src/check.rt:376:32
 child-step-enum-told-2 : (t : ℕ) → child-step-lts.Need-enum-told-2 (child-step-claims t) (child-step-at t) child-step.Post
 child-step-enum-told-2 t c = search needs
 
--- src/check.rt:377:36
 child-step-enum-told-3 : (t : ℕ) → child-step-lts.Need-enum-told-3 (child-step-claims t) (child-step-at t) child-step.Post
 child-step-enum-told-3 t c = search needs
 
--- src/check.rt:378:31
 child-step-enum-known-command-2 : (t : ℕ) → child-step-lts.Need-enum-known-command-2 (child-step-claims t) (child-step-at t) child-step.Post
 child-step-enum-known-command-2 t c = search needs
 
--- src/check.rt:378:44
 child-step-open-element-requires : (t : ℕ) → child-step-lts.Need-open-element-requires (child-step-claims t) (child-step-at t) child-step.Post
 child-step-open-element-requires t c κs = (omega arith, child-fits _ (told ((c .before .before .before .child-command-at) .ensures) ((c .before .command2) .given .1)))
 
--- src/check.rt:378:37
 child-step-onward-requires-2 : (t : ℕ) → child-step-lts.Need-onward-requires-2 (child-step-claims t) (child-step-at t) child-step.Post
 child-step-onward-requires-2 t c κs = search needs
 
--- src/check.rt:379:32
 child-step-enum-known-command-3 : (t : ℕ) → child-step-lts.Need-enum-known-command-3 (child-step-claims t) (child-step-at t) child-step.Post
 child-step-enum-known-command-3 t c = search needs
 
--- src/check.rt:379:45
 child-step-open-fragment-requires : (t : ℕ) → child-step-lts.Need-open-fragment-requires (child-step-claims t) (child-step-at t) child-step.Post
 child-step-open-fragment-requires t c κs = (omega arith, child-fits _ (told ((c .before .before .before .child-command-at) .ensures) ((c .before .command3) .given .1)))
 
--- src/check.rt:379:38
 child-step-onward-requires-3 : (t : ℕ) → child-step-lts.Need-onward-requires-3 (child-step-claims t) (child-step-at t) child-step.Post
 child-step-onward-requires-3 t c κs = search needs
 
--- src/check.rt:380:30
 child-step-enum-told-4 : (t : ℕ) → child-step-lts.Need-enum-told-4 (child-step-claims t) (child-step-at t) child-step.Post
 child-step-enum-told-4 t c = search needs
 
--- src/check.rt:381:42
 child-step-enum-told-5 : (t : ℕ) → child-step-lts.Need-enum-told-5 (child-step-claims t) (child-step-at t) child-step.Post
 child-step-enum-told-5 t c = search needs
 
--- src/check.rt:382:40
 child-step-enum-told-6 : (t : ℕ) → child-step-lts.Need-enum-told-6 (child-step-claims t) (child-step-at t) child-step.Post
 child-step-enum-told-6 t c = search needs
 
--- src/check.rt:369:1
 child-step-returns : (t : ℕ) → child-step-lts.Need-returns (child-step-claims t) (child-step-at t) child-step.Post
 child-step-returns t c = children-text _ _ _ _ (told ((c .before .before .before .before .before .child-command-at) .ensures) ((c .before .before .before .command) .given .1)) ((c .before .check-text) .ensures) ((c .onward) .ensures)
 
--- src/check.rt:369:1
 child-step-returns-2 : (t : ℕ) → child-step-lts.Need-returns-2 (child-step-claims t) (child-step-at t) child-step.Post
 child-step-returns-2 t c = children-expression _ _ _ _ (told ((c .before .before .child-command-at) .ensures) ((c .enum-told) .given .1))
 
--- src/check.rt:369:1
 child-step-returns-3 : (t : ℕ) → child-step-lts.Need-returns-3 (child-step-claims t) (child-step-at t) child-step.Post
 child-step-returns-3 t c = children-empty _ _ _ (told ((c .before .before .child-command-at) .ensures) ((c .enum-told2) .given .1))
 
--- src/check.rt:369:1
 child-step-returns-4 : (t : ℕ) → child-step-lts.Need-returns-4 (child-step-claims t) (child-step-at t) child-step.Post
 child-step-returns-4 t c = children-spread _ _ _ _ (told ((c .before .before .child-command-at) .ensures) ((c .enum-told3) .given .1))
 
--- src/check.rt:369:1
 child-step-returns-5 : (t : ℕ) → child-step-lts.Need-returns-5 (child-step-claims t) (child-step-at t) child-step.Post
 child-step-returns-5 t c = children-element _ _ _ _ (told ((c .before .before .before .before .before .child-command-at) .ensures) ((c .before .before .before .command2) .given .1)) ((c .before .open-element) .ensures) ((c .onward2) .ensures)
 
--- src/check.rt:369:1
 child-step-returns-6 : (t : ℕ) → child-step-lts.Need-returns-6 (child-step-claims t) (child-step-at t) child-step.Post
 child-step-returns-6 t c = children-fragment _ _ _ _ (told ((c .before .before .before .before .before .child-command-at) .ensures) ((c .before .before .before .command3) .given .1)) ((c .before .open-fragment) .ensures) ((c .onward3) .ensures)
 
--- src/check.rt:369:1
 child-step-returns-7 : (t : ℕ) → child-step-lts.Need-returns-7 (child-step-claims t) (child-step-at t) child-step.Post
 child-step-returns-7 t c = children-end _ _ _ (told ((c .before .before .child-command-at) .ensures) ((c .enum-told4) .given .1))
 
--- src/check.rt:369:1
 child-step-returns-8 : (t : ℕ) → child-step-lts.Need-returns-8 (child-step-claims t) (child-step-at t) child-step.Post
 child-step-returns-8 t c = children-wrong _ _ _ (told ((c .before .before .child-command-at) .ensures) ((c .enum-told5) .given .1))
 
--- src/check.rt:369:1
 child-step-returns-9 : (t : ℕ) → child-step-lts.Need-returns-9 (child-step-claims t) (child-step-at t) child-step.Post
 child-step-returns-9 t c = children-cut _ _ _ (told ((c .before .before .child-command-at) .ensures) ((c .enum-told6) .given .1))
 
--- src/check.rt:272:9
 open-element-check-place-requires : (t : ℕ) → open-element-lts.Need-check-place-requires (open-element-claims t) (open-element-at t) open-element.Post
 open-element-check-place-requires t c κs = search needs
 
 open-element-enum-told : (t : ℕ) → open-element-lts.Need-enum-told (open-element-claims t) (open-element-at t) open-element.Post
 open-element-enum-told t c = search needs
 
--- src/check.rt:274:9
 open-element-enum-told-2 : (t : ℕ) → open-element-lts.Need-enum-told-2 (open-element-claims t) (open-element-at t) open-element.Post
 open-element-enum-told-2 t c = search needs
 
--- src/check.rt:274:9
 open-element-returns : (t : ℕ) → open-element-lts.Need-returns (open-element-claims t) (open-element-at t) open-element.Post
 open-element-returns t c = opens-bad _ _ _ ((c .before .before .check-place) .ensures) _ _ _ ((c .enum-told2) .given .1)
 
--- src/check.rt:276:36
 open-element-sub-check-element : (t : ℕ) → open-element-lts.Need-sub-check-element (open-element-claims t) (open-element-at t) open-element.Post
 open-element-sub-check-element t c = search needs
 
--- src/check.rt:276:36
 open-element-part-check-element-start : (t : ℕ) → open-element-lts.Need-part-check-element-start (open-element-claims t) (open-element-at t) open-element.Post
 open-element-part-check-element-start t c = search needs
 
--- src/check.rt:276:36
 open-element-part-check-element-end : (t : ℕ) → open-element-lts.Need-part-check-element-end (open-element-claims t) (open-element-at t) open-element.Post
 open-element-part-check-element-end t c = search needs
 
--- src/check.rt:276:16
 open-element-check-element-requires : (t : ℕ) → open-element-lts.Need-check-element-requires (open-element-claims t) (open-element-at t) open-element.Post
 open-element-check-element-requires t c κs = (omega (arith, part-length 9 ((c .before .before .before .before .before .before .args) .tape .now)), opened-shallow _ _ _ (told ((c .before .before .before .check-place) .ensures) ((c .before .enum-told) .given .1)))
 
--- src/check.rt:276:5
 open-element-further-requires : (t : ℕ) → open-element-lts.Need-further-requires (open-element-claims t) (open-element-at t) open-element.Post
 open-element-further-requires t c κs = omega (arith, element-reach ((c .before .before .before .before .before .before .before .args) .text .now) ((c .before .before .before .before .before .before .before .args) .tape .now) ((c .before .before .before .before .before .before .before .args) .depth) 9 ((c .before .before .before .before .before .before .before .pre) .1) ((c .check-element) .ensures))
 
--- src/check.rt:268:1
 open-element-returns-2 : (t : ℕ) → open-element-lts.Need-returns-2 (open-element-claims t) (open-element-at t) open-element.Post
 open-element-returns-2 t c = opens-element _ _ _ ((c .before .before .before .before .before .check-place) .ensures) _ _ ((c .before .before .before .enum-told) .given .1) ((c .before .before .before .before .before .before .before .before .pre) .1) ((c .before .check-element) .ensures) ((c .further) .ensures)
 
--- src/check.rt:284:9
 open-fragment-check-place-requires : (t : ℕ) → open-fragment-lts.Need-check-place-requires (open-fragment-claims t) (open-fragment-at t) open-fragment.Post
 open-fragment-check-place-requires t c κs = search needs
 
 open-fragment-enum-told : (t : ℕ) → open-fragment-lts.Need-enum-told (open-fragment-claims t) (open-fragment-at t) open-fragment.Post
 open-fragment-enum-told t c = search needs
 
--- src/check.rt:286:9
 open-fragment-enum-told-2 : (t : ℕ) → open-fragment-lts.Need-enum-told-2 (open-fragment-claims t) (open-fragment-at t) open-fragment.Post
 open-fragment-enum-told-2 t c = search needs
 
--- src/check.rt:286:9
 open-fragment-returns : (t : ℕ) → open-fragment-lts.Need-returns (open-fragment-claims t) (open-fragment-at t) open-fragment.Post
 open-fragment-returns t c = opens-bad _ _ _ ((c .before .before .check-place) .ensures) _ _ _ ((c .enum-told2) .given .1)
 
--- src/check.rt:288:37
 open-fragment-sub-check-children : (t : ℕ) → open-fragment-lts.Need-sub-check-children (open-fragment-claims t) (open-fragment-at t) open-fragment.Post
 open-fragment-sub-check-children t c = search needs
 
--- src/check.rt:288:37
 open-fragment-part-check-children-start : (t : ℕ) → open-fragment-lts.Need-part-check-children-start (open-fragment-claims t) (open-fragment-at t) open-fragment.Post
 open-fragment-part-check-children-start t c = search needs
 
--- src/check.rt:288:37
 open-fragment-part-check-children-end : (t : ℕ) → open-fragment-lts.Need-part-check-children-end (open-fragment-claims t) (open-fragment-at t) open-fragment.Post
 open-fragment-part-check-children-end t c = search needs
 
--- src/check.rt:288:49
 open-fragment-add-check-children : (t : ℕ) → open-fragment-lts.Need-add-check-children (open-fragment-claims t) (open-fragment-at t) open-fragment.Post
 open-fragment-add-check-children t c = omega (arith, opened-shallow _ _ _ (told ((c .before .before .before .check-place) .ensures) ((c .before .enum-told) .given .1)))
 
--- src/check.rt:288:16
 open-fragment-check-children-requires : (t : ℕ) → open-fragment-lts.Need-check-children-requires (open-fragment-claims t) (open-fragment-at t) open-fragment.Post
 open-fragment-check-children-requires t c κs = omega (arith, part-length 9 ((c .before .before .before .before .before .before .args) .tape .now))
 
--- src/check.rt:288:5
 open-fragment-further-requires : (t : ℕ) → open-fragment-lts.Need-further-requires (open-fragment-claims t) (open-fragment-at t) open-fragment.Post
 open-fragment-further-requires t c κs = omega (arith, part-reach (λ f t. children-reads f ((c .before .before .before .before .before .before .before .args) .text .now) ((c .before .before .before .before .before .before .before .args) .depth + 1) t) 9 ((c .before .before .before .before .before .before .before .args) .tape .now) ((c .before .before .before .before .before .before .before .pre) .1) ((c .check-children) .ensures))
 
--- src/check.rt:280:1
 open-fragment-returns-2 : (t : ℕ) → open-fragment-lts.Need-returns-2 (open-fragment-claims t) (open-fragment-at t) open-fragment.Post
 open-fragment-returns-2 t c = opens-fragment _ _ _ ((c .before .before .before .before .before .check-place) .ensures) _ _ ((c .before .before .before .enum-told) .given .1) ((c .before .before .before .before .before .before .before .before .pre) .1) ((c .before .check-children) .ensures) ((c .further) .ensures)
 
--- src/check.rt:347:20
 value-behind-enum-known-front : (t : ℕ) → value-behind-lts.Need-enum-known-front (value-behind-claims t) (value-behind-at t) value-behind.Post
 value-behind-enum-known-front t c = search needs
 
--- src/check.rt:348:9
 value-behind-enum-told : (t : ℕ) → value-behind-lts.Need-enum-told (value-behind-claims t) (value-behind-at t) value-behind.Post
 value-behind-enum-told t c = search needs
 
--- src/check.rt:348:9
 value-behind-returns : (t : ℕ) → value-behind-lts.Need-returns (value-behind-claims t) (value-behind-at t) value-behind.Post
 value-behind-returns t c = behind-bad _ ((c .enum-told) .given .1)
 
--- src/check.rt:350:34
 value-behind-sub-check-value : (t : ℕ) → value-behind-lts.Need-sub-check-value (value-behind-claims t) (value-behind-at t) value-behind.Post
 value-behind-sub-check-value t c = omega (arith, within-good ((c .before .front) .given .1) ((c .before .before .before .before .before .pre) .1))
 
--- src/check.rt:350:34
 value-behind-part-check-value-start : (t : ℕ) → value-behind-lts.Need-part-check-value-start (value-behind-claims t) (value-behind-at t) value-behind.Post
 value-behind-part-check-value-start t c = omega (arith, within-good ((c .before .front) .given .1) ((c .before .before .before .before .before .pre) .1))
 
--- src/check.rt:350:34
 value-behind-part-check-value-end : (t : ℕ) → value-behind-lts.Need-part-check-value-end (value-behind-claims t) (value-behind-at t) value-behind.Post
 value-behind-part-check-value-end t c = search needs
 
--- src/check.rt:350:16
 value-behind-check-value-requires : (t : ℕ) → value-behind-lts.Need-check-value-requires (value-behind-claims t) (value-behind-at t) value-behind.Post
 value-behind-check-value-requires t c κs = omega (arith, part-length ((c .before .before .front) .given .0 .0) ((c .before .before .before .before .before .before .args) .tape .now), within-good ((c .before .before .front) .given .1) ((c .before .before .before .before .before .before .pre) .1))
 
--- src/check.rt:350:5
 value-behind-further-requires : (t : ℕ) → value-behind-lts.Need-further-requires (value-behind-claims t) (value-behind-at t) value-behind.Post
 value-behind-further-requires t c κs = omega (arith, part-reach (λ f t. value-reads f ((c .before .before .before .before .before .before .before .args) .text .now) ((c .before .before .before .before .before .before .before .args) .depth) t) ((c .before .before .before .front) .given .0 .0) ((c .before .before .before .before .before .before .before .args) .tape .now) (within-good ((c .before .before .before .front) .given .1) ((c .before .before .before .before .before .before .before .pre) .1) .1) ((c .check-value) .ensures))
 
--- src/check.rt:343:1
 value-behind-returns-2 : (t : ℕ) → value-behind-lts.Need-returns-2 (value-behind-claims t) (value-behind-at t) value-behind.Post
 value-behind-returns-2 t c = behind-good _ ((c .before .before .before .before .front) .given .1) ((c .before .before .before .before .before .before .before .before .pre) .1) ((c .before .check-value) .ensures) ((c .further) .ensures)
 

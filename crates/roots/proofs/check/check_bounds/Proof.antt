@@ -1,47 +1,33 @@
 use Rattle.roots.specs.Checking.{report}
 use Rattle.definitions.specs.Judging.{named}
-use Prim.Native.Nat.{ℕ, suc, _≤_, _<_, _+_, _-_}
-use native.Mathlib.Omega.{arith}
-use mathlib.Core.Path.{_≡_, refl, sym, ap, subst, _∙_}
-use lib.ListN.{length, getD, take, drop}
 use borrow.Author.Needs.{needs}
 use Rattle.roots.proofs.check.check_bounds.Statement.{statement}
 use Rattle.roots.proofs.check.check_bounds.Tie as tie
-use Rattle.roots.proofs.check.check_bounds.Reads as reads
-use Rattle.roots.proofs.check.check_bounds.Lts as lts
 
--- src/check.rt:81:38
 enum-told : tie.Need-enum-told
 enum-told c = search needs
 
--- src/check.rt:82:35
 enum-told-2 : tie.Need-enum-told-2
 enum-told-2 c = search needs
 
--- src/check.rt:83:36
 enum-told-3 : tie.Need-enum-told-3
 enum-told-3 c = search needs
 
--- src/check.rt:84:25
 enum-told-4 : tie.Need-enum-told-4
 enum-told-4 c = search needs
 
--- src/check.rt:77:1
 returns : tie.Need-returns
 unfolding named report
 returns c = rw (c .enum-told .given .1)
 
--- src/check.rt:77:1
 returns-2 : tie.Need-returns-2
 unfolding named report
 returns-2 c = rw (c .enum-told2 .given .1)
 
--- src/check.rt:77:1
 returns-3 : tie.Need-returns-3
 unfolding named report
 returns-3 c = rw (c .enum-told3 .given .1)
 
--- src/check.rt:77:1
 returns-4 : tie.Need-returns-4
 unfolding named report
 returns-4 c = rw (c .enum-told4 .given .1)

@@ -2,15 +2,11 @@ use Rattle.roots.specs.Checking.{report}
 use Rattle.roots.proofs.Loops.{Passed, passed-none, passed-next, next-less, end-inside, bad-inside, passed-end, passed-bad}
 use Rattle.definitions.specs.Reading.{membersAt}
 use borrow.Author.Needs.{needs}
-use Prim.Native.Nat.{ℕ, suc, _≤_, _<_, _+_, _-_}
+use Prim.Native.Nat.{_-_}
 use native.Mathlib.Omega.{arith}
-use mathlib.Core.Path.{_≡_, refl, sym, ap, subst, _∙_}
-use lib.ListN.{length, getD, take, drop}
+use lib.ListN.{length}
 use Rattle.roots.proofs.check.check_members.Statement.{statement}
 use Rattle.roots.proofs.check.check_members.Tie as tie
-use Rattle.roots.proofs.check.check_members.Reads as reads
-use Rattle.roots.proofs.check.check_members.Lts as lts
-use Rattle.roots.proofs.check.member_step.Reads as member-step-reads
 
 abbrev Inv-loop : tie.InvT-loop
 Inv-loop text tape i₀ i = Passed (λ f. report (membersAt f text tape)) (λ f t. membersAt f text t) tape i
@@ -18,63 +14,48 @@ Inv-loop text tape i₀ i = Passed (λ f. report (membersAt f text tape)) (λ f 
 abbrev μ-loop : tie.MeasureT-loop
 μ-loop text tape i₀ i = length tape - i
 
--- src/check.rt:182:5
 loop-holds : tie.Need-loop-holds Inv-loop μ-loop
 loop-holds c = passed-none _ _
 
--- src/check.rt:183:38
 sub-member-step : tie.Need-sub-member-step Inv-loop μ-loop
 sub-member-step c = omega (arith, (c .loop) .inv .inside)
 
--- src/check.rt:183:38
 part-member-step-start : tie.Need-part-member-step-start Inv-loop μ-loop
 part-member-step-start c = omega (arith, (c .loop) .inv .inside)
 
--- src/check.rt:183:38
 part-member-step-end : tie.Need-part-member-step-end Inv-loop μ-loop
 part-member-step-end c = search needs
 
--- src/check.rt:183:13
 member-step-requires : tie.Need-member-step-requires Inv-loop μ-loop
 member-step-requires c κs = search needs
 
--- src/check.rt:185:24
 enum-known-step : tie.Need-enum-known-step Inv-loop μ-loop
 enum-known-step c = search needs
 
--- src/check.rt:186:21
 add-i : tie.Need-add-i Inv-loop μ-loop
 add-i c = omega (arith, passed-next ((c .before .before .before .before .before .loop) .inv) ((c .before .before .before .member-step) .ensures) ((c .before .step) .given .1) .inside)
 
--- src/check.rt:182:5
 loop-less : tie.Need-loop-less Inv-loop μ-loop
 loop-less c = next-less ((c .before .before .before .before .before .loop) .inv) ((c .before .before .before .member-step) .ensures) ((c .before .step) .given .1)
 
--- src/check.rt:182:5
 loop-again : tie.Need-loop-again Inv-loop μ-loop
 loop-again c = passed-next ((c .before .before .before .before .before .loop) .inv) ((c .before .before .before .member-step) .ensures) ((c .before .step) .given .1)
 
--- src/check.rt:188:23
 enum-known-step-2 : tie.Need-enum-known-step-2 Inv-loop μ-loop
 enum-known-step-2 c = search needs
 
--- src/check.rt:189:35
 add-t13 : tie.Need-add-t13 Inv-loop μ-loop
 add-t13 c = omega (arith, end-inside ((c .before .before .before .before .before .loop) .inv) ((c .before .before .before .member-step) .ensures) ((c .before .step2) .given .1))
 
--- src/check.rt:189:17
 returns : tie.Need-returns Inv-loop μ-loop
 returns c = record { tells = passed-end ((c .before .before .before .before .before .loop) .inv) ((c .before .before .before .member-step) .ensures) ((c .before .step2) .given .1) }
 
--- src/check.rt:191:23
 enum-known-step-3 : tie.Need-enum-known-step-3 Inv-loop μ-loop
 enum-known-step-3 c = search needs
 
--- src/check.rt:192:37
 add-t14 : tie.Need-add-t14 Inv-loop μ-loop
 add-t14 c = omega (arith, bad-inside ((c .before .before .before .before .before .loop) .inv) ((c .before .before .before .member-step) .ensures) ((c .before .step3) .given .1))
 
--- src/check.rt:192:17
 returns-2 : tie.Need-returns-2 Inv-loop μ-loop
 returns-2 c = record { tells = passed-bad ((c .before .before .before .before .before .loop) .inv) ((c .before .before .before .member-step) .ensures) ((c .before .step3) .given .1) }
 

@@ -2,89 +2,62 @@ use Rattle.roots.proofs.Commands.{name-plain, name-namespaced, name-ide
 use Rattle.roots.proofs.Firsts.{named-within}
 use Rattle.commands.proofs.Lengths.{name-fits}
 use Rattle.text.proofs.Lists.{told}
-use Prim.Native.Nat.{ℕ, suc, _≤_, _<_, _+_, _-_}
 use native.Mathlib.Omega.{arith}
-use mathlib.Core.Path.{_≡_, refl, sym, ap, subst, _∙_}
-use lib.ListN.{length, getD, take, drop}
 use borrow.Author.Needs.{needs}
 use Rattle.roots.proofs.check.check_name.Statement.{statement}
 use Rattle.roots.proofs.check.check_name.Tie as tie
-use Rattle.roots.proofs.check.check_name.Reads as reads
-use Rattle.roots.proofs.check.check_name.Lts as lts
-use Rattle.roots.proofs.check.check_label.Reads as check-label-reads
-use Rattle.roots.proofs.check.check_labels.Reads as check-labels-reads
-use Rattle.roots.proofs.check.members_behind.Reads as members-behind-reads
-use Rattle.commands.proofs.root.name_command_at.Reads as name-command-at-reads
 
--- src/check.rt:213:9
 name-command-at-requires : tie.Need-name-command-at-requires
 name-command-at-requires c κs = search needs
 
--- src/check.rt:215:28
 enum-known-command : tie.Need-enum-known-command
 enum-known-command c = search needs
 
--- src/check.rt:215:34
 check-label-requires : tie.Need-check-label-requires
 check-label-requires c κs = search needs
 
--- src/check.rt:216:33
 enum-known-command-2 : tie.Need-enum-known-command-2
 enum-known-command-2 c = search needs
 
--- src/check.rt:216:66
 check-label-requires-2 : tie.Need-check-label-requires-2
 check-label-requires-2 c κs = search needs
 
--- src/check.rt:216:39
 members-behind-requires : tie.Need-members-behind-requires
 members-behind-requires c κs = named-within 5 _ (omega arith) (name-fits _ (told ((c .before .before .before .before .name-command-at) .ensures) ((c .before .before .command2) .given .1))) _ ((c .check-label2) .ensures)
 
--- src/check.rt:217:57
 enum-told : tie.Need-enum-told
 enum-told c = search needs
 
--- src/check.rt:217:30
 members-behind-requires-2 : tie.Need-members-behind-requires-2
 members-behind-requires-2 c κs = (omega arith, name-fits _ (told ((c .before .before .name-command-at) .ensures) ((c .enum-told) .given .1)))
 
--- src/check.rt:218:33
 enum-known-command-3 : tie.Need-enum-known-command-3
 enum-known-command-3 c = search needs
 
--- src/check.rt:218:42
 check-labels-requires : tie.Need-check-labels-requires
 check-labels-requires c κs = search needs
 
--- src/check.rt:219:41
 enum-told-2 : tie.Need-enum-told-2
 enum-told-2 c = search needs
 
--- src/check.rt:220:39
 enum-told-3 : tie.Need-enum-told-3
 enum-told-3 c = search needs
 
--- src/check.rt:210:1
 returns : tie.Need-returns
 returns c = name-plain _ _ _ (told ((c .before .before .before .before .name-command-at) .ensures) ((c .before .before .command) .given .1)) ((c .check-label) .ensures)
 
--- src/check.rt:210:1
 returns-2 : tie.Need-returns-2
 returns-2 c = name-identifier _ _ _ (told ((c .before .before .before .before .before .name-command-at) .ensures) ((c .before .before .before .command2) .given .1)) ((c .before .check-label2) .ensures) ((c .members-behind) .ensures)
 
--- src/check.rt:210:1
 returns-3 : tie.Need-returns-3
 returns-3 c = name-this _ _ (told ((c .before .before .before .name-command-at) .ensures) ((c .before .enum-told) .given .1)) ((c .members-behind2) .ensures)
 
--- src/check.rt:210:1
 returns-4 : tie.Need-returns-4
 returns-4 c = name-namespaced _ _ _ _ (told ((c .before .before .before .before .name-command-at) .ensures) ((c .before .before .command3) .given .1)) ((c .check-labels) .ensures)
 
--- src/check.rt:210:1
 returns-5 : tie.Need-returns-5
 returns-5 c = name-wrong _ _ (told ((c .before .before .name-command-at) .ensures) ((c .enum-told2) .given .1))
 
--- src/check.rt:210:1
 returns-6 : tie.Need-returns-6
 returns-6 c = name-cut _ _ (told ((c .before .before .name-command-at) .ensures) ((c .enum-told3) .given .1))
 

@@ -2,15 +2,11 @@ use Rattle.roots.specs.Checking.{report}
 use Rattle.roots.proofs.Loops.{Passed, passed-none, passed-next, next-less, end-inside, bad-inside, passed-end, passed-bad}
 use Rattle.definitions.specs.Reading.{propertiesAt}
 use borrow.Author.Needs.{needs}
-use Prim.Native.Nat.{ℕ, suc, _≤_, _<_, _+_, _-_}
+use Prim.Native.Nat.{_-_}
 use native.Mathlib.Omega.{arith}
-use mathlib.Core.Path.{_≡_, refl, sym, ap, subst, _∙_}
-use lib.ListN.{length, getD, take, drop}
+use lib.ListN.{length}
 use Rattle.roots.proofs.check.check_properties.Statement.{statement}
 use Rattle.roots.proofs.check.check_properties.Tie as tie
-use Rattle.roots.proofs.check.check_properties.Reads as reads
-use Rattle.roots.proofs.check.check_properties.Lts as lts
-use Rattle.roots.proofs.check.property_step.Reads as property-step-reads
 
 abbrev Inv-loop : tie.InvT-loop
 Inv-loop text tape i₀ i = Passed (λ f. report (propertiesAt f text tape)) (λ f t. propertiesAt f text t) tape i
@@ -18,63 +14,48 @@ Inv-loop text tape i₀ i = Passed (λ f. report (propertiesAt f text tape)) (λ
 abbrev μ-loop : tie.MeasureT-loop
 μ-loop text tape i₀ i = length tape - i
 
--- src/check.rt:243:5
 loop-holds : tie.Need-loop-holds Inv-loop μ-loop
 loop-holds c = passed-none _ _
 
--- src/check.rt:244:40
 sub-property-step : tie.Need-sub-property-step Inv-loop μ-loop
 sub-property-step c = omega (arith, (c .loop) .inv .inside)
 
--- src/check.rt:244:40
 part-property-step-start : tie.Need-part-property-step-start Inv-loop μ-loop
 part-property-step-start c = omega (arith, (c .loop) .inv .inside)
 
--- src/check.rt:244:40
 part-property-step-end : tie.Need-part-property-step-end Inv-loop μ-loop
 part-property-step-end c = search needs
 
--- src/check.rt:244:13
 property-step-requires : tie.Need-property-step-requires Inv-loop μ-loop
 property-step-requires c κs = search needs
 
--- src/check.rt:246:24
 enum-known-step : tie.Need-enum-known-step Inv-loop μ-loop
 enum-known-step c = search needs
 
--- src/check.rt:247:21
 add-i : tie.Need-add-i Inv-loop μ-loop
 add-i c = omega (arith, passed-next ((c .before .before .before .before .before .loop) .inv) ((c .before .before .before .property-step) .ensures) ((c .before .step) .given .1) .inside)
 
--- src/check.rt:243:5
 loop-less : tie.Need-loop-less Inv-loop μ-loop
 loop-less c = next-less ((c .before .before .before .before .before .loop) .inv) ((c .before .before .before .property-step) .ensures) ((c .before .step) .given .1)
 
--- src/check.rt:243:5
 loop-again : tie.Need-loop-again Inv-loop μ-loop
 loop-again c = passed-next ((c .before .before .before .before .before .loop) .inv) ((c .before .before .before .property-step) .ensures) ((c .before .step) .given .1)
 
--- src/check.rt:249:23
 enum-known-step-2 : tie.Need-enum-known-step-2 Inv-loop μ-loop
 enum-known-step-2 c = search needs
 
--- src/check.rt:250:35
 add-t13 : tie.Need-add-t13 Inv-loop μ-loop
 add-t13 c = omega (arith, end-inside ((c .before .before .before .before .before .loop) .inv) ((c .before .before .before .property-step) .ensures) ((c .before .step2) .given .1))
 
--- src/check.rt:250:17
 returns : tie.Need-returns Inv-loop μ-loop
 returns c = record { tells = passed-end ((c .before .before .before .before .before .loop) .inv) ((c .before .before .before .property-step) .ensures) ((c .before .step2) .given .1) }
 
--- src/check.rt:252:23
 enum-known-step-3 : tie.Need-enum-known-step-3 Inv-loop μ-loop
 enum-known-step-3 c = search needs
 
--- src/check.rt:253:37
 add-t14 : tie.Need-add-t14 Inv-loop μ-loop
 add-t14 c = omega (arith, bad-inside ((c .before .before .before .before .before .loop) .inv) ((c .before .before .before .property-step) .ensures) ((c .before .step3) .given .1))
 
--- src/check.rt:253:17
 returns-2 : tie.Need-returns-2 Inv-loop μ-loop
 returns-2 c = record { tells = passed-bad ((c .before .before .before .before .before .loop) .inv) ((c .before .before .before .property-step) .ensures) ((c .before .step3) .given .1) }
 

@@ -4,77 +4,53 @@ use Rattle.roots.proofs.Readings.{scopes-reads}
 use mathlib.Core.Bool.{false}
 use Rattle.commands.proofs.Lengths.{heritage-fits}
 use Rattle.text.proofs.Lists.{told}
-use Prim.Native.Nat.{ℕ, suc, _≤_, _<_, _+_, _-_}
 use native.Mathlib.Omega.{arith}
-use mathlib.Core.Path.{_≡_, refl, sym, ap, subst, _∙_}
-use lib.ListN.{length, getD, take, drop}
 use borrow.Author.Needs.{needs}
 use Rattle.roots.proofs.check.check_root.Statement.{statement}
 use Rattle.roots.proofs.check.check_root.Tie as tie
-use Rattle.roots.proofs.check.check_root.Reads as reads
-use Rattle.roots.proofs.check.check_root.Lts as lts
-use Rattle.roots.proofs.check.check_scopes.Reads as check-scopes-reads
-use Rattle.roots.proofs.check.close.Reads as close-reads
-use Rattle.roots.proofs.check.further.Reads as further-reads
-use Rattle.commands.proofs.root.heritage_command_at.Reads as heritage-command-at-reads
 
--- src/check.rt:484:9
 heritage-command-at-requires : tie.Need-heritage-command-at-requires
 heritage-command-at-requires c κs = search needs
 
--- src/check.rt:486:47
 enum-told : tie.Need-enum-told
 enum-told c = search needs
 
--- src/check.rt:486:89
 sub-check-scopes : tie.Need-sub-check-scopes
 sub-check-scopes c = omega (arith, heritage-fits _ (told ((c .before .before .heritage-command-at) .ensures) ((c .enum-told) .given .1)))
 
--- src/check.rt:486:89
 part-check-scopes-start : tie.Need-part-check-scopes-start
 part-check-scopes-start c = omega (arith, heritage-fits _ (told ((c .before .before .heritage-command-at) .ensures) ((c .enum-told) .given .1)))
 
--- src/check.rt:486:89
 part-check-scopes-end : tie.Need-part-check-scopes-end
 part-check-scopes-end c = search needs
 
--- src/check.rt:486:70
 check-scopes-requires : tie.Need-check-scopes-requires
 check-scopes-requires c κs = search needs
 
--- src/check.rt:486:59
 further-requires : tie.Need-further-requires
 further-requires c κs = omega (arith, part-reach (λ f t. scopes-reads f ((c .before .before .before .before .before .before .before .args) .text .now) false t) 2 ((c .before .before .before .before .before .before .before .args) .tape .now) (heritage-fits _ (told ((c .before .before .before .before .heritage-command-at) .ensures) ((c .before .before .enum-told) .given .1))) ((c .check-scopes) .ensures))
 
--- src/check.rt:486:41
 close-requires : tie.Need-close-requires
 close-requires c κs = search needs
 
--- src/check.rt:487:48
 enum-told-2 : tie.Need-enum-told-2
 enum-told-2 c = search needs
 
--- src/check.rt:488:46
 enum-told-3 : tie.Need-enum-told-3
 enum-told-3 c = search needs
 
--- src/check.rt:489:46
 enum-told-4 : tie.Need-enum-told-4
 enum-told-4 c = search needs
 
--- src/check.rt:481:1
 returns : tie.Need-returns
 returns c = root-heritage _ _ _ (told ((c .before .before .before .before .before .before .heritage-command-at) .ensures) ((c .before .before .before .before .enum-told) .given .1)) ((c .before .before .check-scopes) .ensures) ((c .before .further) .ensures) ((c .close) .ensures)
 
--- src/check.rt:481:1
 returns-2 : tie.Need-returns-2
 returns-2 c = root-wrong _ _ (told ((c .before .before .heritage-command-at) .ensures) ((c .enum-told2) .given .1))
 
--- src/check.rt:481:1
 returns-3 : tie.Need-returns-3
 returns-3 c = root-cut _ _ (told ((c .before .before .heritage-command-at) .ensures) ((c .enum-told3) .given .1))
 
--- src/check.rt:481:1
 returns-4 : tie.Need-returns-4
 returns-4 c = root-bad _ _ (told ((c .before .before .heritage-command-at) .ensures) ((c .enum-told4) .given .1))
 

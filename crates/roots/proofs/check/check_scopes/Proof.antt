@@ -1,26 +1,16 @@
 use Rattle.roots.proofs.Entry.{scope-room, scopes-on, scopes-wrong, scopes-bad, scopes-cut, scopes-element-reach, scopes-fragment-reach, scopes-element, scopes-fragment}
-use Rattle.roots.proofs.Entry.{scope-room, scopes-on, scopes-wrong, scopes-bad, scopes-cut, scopes-element, scopes-fragment}
-use Rattle.roots.proofs.Commands.{element-opens-within, fragment-opens-within}
 use Rattle.roots.proofs.Loops.{Passed, passed-none}
-use Rattle.roots.proofs.Behind.{part-length, within-reach}
+use Rattle.roots.proofs.Behind.{part-length}
 use Rattle.roots.specs.Checking.{report}
 use Rattle.definitions.specs.Reading.{scopesAt}
 use Rattle.text.proofs.Lists.{told}
 use mathlib.Core.Bool.{false}
 use borrow.Author.Needs.{needs}
-use Prim.Native.Nat.{ℕ, suc, _≤_, _<_, _+_, _-_}
+use Prim.Native.Nat.{_-_}
 use native.Mathlib.Omega.{arith}
-use mathlib.Core.Path.{_≡_, refl, sym, ap, subst, _∙_}
-use lib.ListN.{length, getD, take, drop}
+use lib.ListN.{length}
 use Rattle.roots.proofs.check.check_scopes.Statement.{statement}
 use Rattle.roots.proofs.check.check_scopes.Tie as tie
-use Rattle.roots.proofs.check.check_scopes.Reads as reads
-use Rattle.roots.proofs.check.check_scopes.Lts as lts
-use Rattle.roots.proofs.check.further.Reads as further-reads
-use Rattle.roots.proofs.check.in_function.Reads as in-function-reads
-use Rattle.roots.proofs.check.open_element.Reads as open-element-reads
-use Rattle.roots.proofs.check.open_fragment.Reads as open-fragment-reads
-use Rattle.commands.proofs.root.scope_command_at.Reads as scope-command-at-reads
 
 abbrev Inv-loop : tie.InvT-loop
 Inv-loop text tape found₀ i₀ found i = Passed (λ f. report (scopesAt f text false tape)) (λ f t. scopesAt f text found t) tape i
@@ -28,123 +18,93 @@ Inv-loop text tape found₀ i₀ found i = Passed (λ f. report (scopesAt f text
 abbrev μ-loop : tie.MeasureT-loop
 μ-loop text tape found₀ i₀ found i = length tape - i
 
--- src/check.rt:439:5
 loop-holds : tie.Need-loop-holds Inv-loop μ-loop
 loop-holds c = passed-none _ _
 
--- src/check.rt:440:47
 sub-scope-command-at : tie.Need-sub-scope-command-at Inv-loop μ-loop
 sub-scope-command-at c = omega (arith, (c .loop) .inv .inside)
 
--- src/check.rt:440:47
 part-scope-command-at-start : tie.Need-part-scope-command-at-start Inv-loop μ-loop
 part-scope-command-at-start c = omega (arith, (c .loop) .inv .inside)
 
--- src/check.rt:440:47
 part-scope-command-at-end : tie.Need-part-scope-command-at-end Inv-loop μ-loop
 part-scope-command-at-end c = search needs
 
--- src/check.rt:440:13
 scope-command-at-requires : tie.Need-scope-command-at-requires Inv-loop μ-loop
 scope-command-at-requires c κs = search needs
 
--- src/check.rt:442:33
 enum-known-command : tie.Need-enum-known-command Inv-loop μ-loop
 enum-known-command c = search needs
 
--- src/check.rt:443:17
 in-function-requires : tie.Need-in-function-requires Inv-loop μ-loop
 in-function-requires c κs = search needs
 
--- src/check.rt:444:21
 add-i : tie.Need-add-i Inv-loop μ-loop
 add-i c = omega (arith, scope-room ((c .before .before .before .before .before .before .before .before .before .args) .text .now) ((c .before .before .before .before .before .before .before .before .before .args) .tape .now) _ ((c .before .before .before .before .before .before .loop) .inv) (told ((c .before .before .before .before .scope-command-at) .ensures) ((c .before .before .command) .given .1)))
 
--- src/check.rt:439:5
 loop-less : tie.Need-loop-less Inv-loop μ-loop
 loop-less c = omega (arith, scope-room ((c .before .before .before .before .before .before .before .before .before .args) .text .now) ((c .before .before .before .before .before .before .before .before .before .args) .tape .now) _ ((c .before .before .before .before .before .before .loop) .inv) (told ((c .before .before .before .before .scope-command-at) .ensures) ((c .before .before .command) .given .1)))
 
--- src/check.rt:439:5
 loop-again : tie.Need-loop-again Inv-loop μ-loop
 loop-again c = scopes-on _ _ _ ((c .before .before .before .before .before .before .loop) .inv) _ (told ((c .before .before .before .before .scope-command-at) .ensures) ((c .before .before .command) .given .1)) ((c .in-function) .ensures)
 
--- src/check.rt:446:35
 enum-known-command-2 : tie.Need-enum-known-command-2 Inv-loop μ-loop
 enum-known-command-2 c = search needs
 
--- src/check.rt:447:54
 sub-open-element : tie.Need-sub-open-element Inv-loop μ-loop
 sub-open-element c = omega (arith, (c .before .before .before .before .before .loop) .inv .inside)
 
--- src/check.rt:447:54
 part-open-element-start : tie.Need-part-open-element-start Inv-loop μ-loop
 part-open-element-start c = omega (arith, (c .before .before .before .before .before .loop) .inv .inside)
 
--- src/check.rt:447:54
 part-open-element-end : tie.Need-part-open-element-end Inv-loop μ-loop
 part-open-element-end c = search needs
 
--- src/check.rt:447:35
 open-element-requires : tie.Need-open-element-requires Inv-loop μ-loop
 open-element-requires c κs = omega (arith, scope-room ((c .before .before .before .before .before .before .before .before .before .args) .text .now) ((c .before .before .before .before .before .before .before .before .before .args) .tape .now) _ ((c .before .before .before .before .before .before .loop) .inv) (told ((c .before .before .before .before .scope-command-at) .ensures) ((c .before .before .command2) .given .1)), part-length ((c .before .before .before .before .before .before .loop) .i) ((c .before .before .before .before .before .before .before .before .before .args) .tape .now))
 
--- src/check.rt:447:17
 further-requires : tie.Need-further-requires Inv-loop μ-loop
 further-requires c κs = omega (arith, scopes-element-reach ((c .before .before .before .before .before .before .before .before .before .before .args) .text .now) ((c .before .before .before .before .before .before .before .before .before .before .args) .tape .now) _ ((c .before .before .before .before .before .before .before .loop) .inv) _ (told ((c .before .before .before .before .before .scope-command-at) .ensures) ((c .before .before .before .command2) .given .1)) ((c .open-element) .ensures))
 
--- src/check.rt:447:17
 returns : tie.Need-returns Inv-loop μ-loop
 returns c = record { tells = scopes-element _ _ _ ((c .before .before .before .before .before .before .before .before .loop) .inv) _ (told ((c .before .before .before .before .before .before .scope-command-at) .ensures) ((c .before .before .before .before .command2) .given .1)) ((c .before .open-element) .ensures) ((c .further) .ensures) }
 
--- src/check.rt:449:36
 enum-known-command-3 : tie.Need-enum-known-command-3 Inv-loop μ-loop
 enum-known-command-3 c = search needs
 
--- src/check.rt:450:55
 sub-open-fragment : tie.Need-sub-open-fragment Inv-loop μ-loop
 sub-open-fragment c = omega (arith, (c .before .before .before .before .before .loop) .inv .inside)
 
--- src/check.rt:450:55
 part-open-fragment-start : tie.Need-part-open-fragment-start Inv-loop μ-loop
 part-open-fragment-start c = omega (arith, (c .before .before .before .before .before .loop) .inv .inside)
 
--- src/check.rt:450:55
 part-open-fragment-end : tie.Need-part-open-fragment-end Inv-loop μ-loop
 part-open-fragment-end c = search needs
 
--- src/check.rt:450:35
 open-fragment-requires : tie.Need-open-fragment-requires Inv-loop μ-loop
 open-fragment-requires c κs = omega (arith, scope-room ((c .before .before .before .before .before .before .before .before .before .args) .text .now) ((c .before .before .before .before .before .before .before .before .before .args) .tape .now) _ ((c .before .before .before .before .before .before .loop) .inv) (told ((c .before .before .before .before .scope-command-at) .ensures) ((c .before .before .command3) .given .1)), part-length ((c .before .before .before .before .before .before .loop) .i) ((c .before .before .before .before .before .before .before .before .before .args) .tape .now))
 
--- src/check.rt:450:17
 further-requires-2 : tie.Need-further-requires-2 Inv-loop μ-loop
 further-requires-2 c κs = omega (arith, scopes-fragment-reach ((c .before .before .before .before .before .before .before .before .before .before .args) .text .now) ((c .before .before .before .before .before .before .before .before .before .before .args) .tape .now) _ ((c .before .before .before .before .before .before .before .loop) .inv) _ (told ((c .before .before .before .before .before .scope-command-at) .ensures) ((c .before .before .before .command3) .given .1)) ((c .open-fragment) .ensures))
 
--- src/check.rt:450:17
 returns-2 : tie.Need-returns-2 Inv-loop μ-loop
 returns-2 c = record { tells = scopes-fragment _ _ _ ((c .before .before .before .before .before .before .before .before .loop) .inv) _ (told ((c .before .before .before .before .before .before .scope-command-at) .ensures) ((c .before .before .before .before .command3) .given .1)) ((c .before .open-fragment) .ensures) ((c .further2) .ensures) }
 
--- src/check.rt:453:34
 enum-told : tie.Need-enum-told Inv-loop μ-loop
 enum-told c = search needs
 
--- src/check.rt:453:17
 returns-3 : tie.Need-returns-3 Inv-loop μ-loop
 returns-3 c = record { tells = scopes-wrong _ _ _ ((c .before .before .before .before .loop) .inv) (told ((c .before .before .scope-command-at) .ensures) ((c .enum-told) .given .1)) }
 
--- src/check.rt:456:34
 enum-told-2 : tie.Need-enum-told-2 Inv-loop μ-loop
 enum-told-2 c = search needs
 
--- src/check.rt:456:17
 returns-4 : tie.Need-returns-4 Inv-loop μ-loop
 returns-4 c = record { tells = scopes-cut _ _ _ ((c .before .before .before .before .loop) .inv) (told ((c .before .before .scope-command-at) .ensures) ((c .enum-told2) .given .1)) }
 
--- src/check.rt:459:34
 enum-told-3 : tie.Need-enum-told-3 Inv-loop μ-loop
 enum-told-3 c = search needs
 
--- src/check.rt:459:17
 returns-5 : tie.Need-returns-5 Inv-loop μ-loop
 returns-5 c = record { tells = scopes-bad _ _ _ ((c .before .before .before .before .loop) .inv) (told ((c .before .before .scope-command-at) .ensures) ((c .enum-told3) .given .1)) }
 

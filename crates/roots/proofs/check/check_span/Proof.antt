@@ -1,53 +1,37 @@
 use Rattle.roots.specs.Checking.{report}
 use Rattle.text.proofs.Lists.{told}
 use Rattle.definitions.specs.Judging.{spanned}
-use Prim.Native.Nat.{ℕ, suc, _≤_, _<_, _+_, _-_}
-use native.Mathlib.Omega.{arith}
-use mathlib.Core.Path.{_≡_, refl, sym, ap, subst, _∙_}
-use lib.ListN.{length, getD, take, drop}
 use borrow.Author.Needs.{needs}
 use Rattle.roots.proofs.check.check_span.Statement.{statement}
 use Rattle.roots.proofs.check.check_span.Tie as tie
-use Rattle.roots.proofs.check.check_span.Reads as reads
-use Rattle.roots.proofs.check.check_span.Lts as lts
-use Rattle.text.proofs.spans.span_bounds.Reads as span-bounds-reads
 
--- src/check.rt:67:9
 span-bounds-requires : tie.Need-span-bounds-requires
 span-bounds-requires c κs = search needs
 
--- src/check.rt:69:38
 enum-told : tie.Need-enum-told
 enum-told c = search needs
 
--- src/check.rt:70:35
 enum-told-2 : tie.Need-enum-told-2
 enum-told-2 c = search needs
 
--- src/check.rt:71:26
 enum-told-3 : tie.Need-enum-told-3
 enum-told-3 c = search needs
 
--- src/check.rt:72:25
 enum-told-4 : tie.Need-enum-told-4
 enum-told-4 c = search needs
 
--- src/check.rt:64:1
 returns : tie.Need-returns
 unfolding spanned report
 returns c = rw (told (c .before .before .span-bounds .ensures) (c .enum-told .given .1))
 
--- src/check.rt:64:1
 returns-2 : tie.Need-returns-2
 unfolding spanned report
 returns-2 c = rw (told (c .before .before .span-bounds .ensures) (c .enum-told2 .given .1))
 
--- src/check.rt:64:1
 returns-3 : tie.Need-returns-3
 unfolding spanned report
 returns-3 c = rw (told (c .before .before .span-bounds .ensures) (c .enum-told3 .given .1))
 
--- src/check.rt:64:1
 returns-4 : tie.Need-returns-4
 unfolding spanned report
 returns-4 c = rw (told (c .before .before .span-bounds .ensures) (c .enum-told4 .given .1))

@@ -1,60 +1,39 @@
-use lib.Dec.{eqb}
-use Rattle.text.specs.Bytes.{find}
 use Rattle.roots.proofs.Scans.{lettered-refused, lettered-searched}
-use Rattle.roots.specs.Checking.{report, sequel}
-use Rattle.definitions.specs.Reading.{lettered, ampersand}
-use Rattle.roots.proofs.Scans.{spanned-then}
-use Rattle.text.proofs.Lists.{told}
-use Prim.Native.Nat.{ℕ, suc, _≤_, _<_, _+_, _-_}
-use native.Mathlib.Omega.{arith}
-use mathlib.Core.Path.{_≡_, refl, sym, ap, subst, _∙_}
-use lib.ListN.{length, getD, take, drop}
+use Rattle.roots.specs.Checking.{report}
+use Rattle.definitions.specs.Reading.{ampersand}
+use mathlib.Core.Path.{sym, _∙_}
 use borrow.Author.Needs.{needs}
 use Rattle.roots.proofs.check.check_text.Statement.{statement}
 use Rattle.roots.proofs.check.check_text.Tie as tie
-use Rattle.roots.proofs.check.check_text.Reads as reads
-use Rattle.roots.proofs.check.check_text.Lts as lts
-use Rattle.roots.proofs.check.check_span.Reads as check-span-reads
-use Rattle.text.proofs.bytes.find_byte.Reads as find-byte-reads
-use Rattle.text.proofs.spans.part.Reads as part-reads
 
--- src/check.rt:128:9
 check-span-requires : tie.Need-check-span-requires
 check-span-requires c κs = search needs
 
 enum-told : tie.Need-enum-told
 enum-told c = search needs
 
--- src/check.rt:130:9
 enum-told-2 : tie.Need-enum-told-2
 enum-told-2 c = search needs
 
--- src/check.rt:130:9
 returns : tie.Need-returns
 returns c = lettered-refused _ _ _ _ ((c .before .before .check-span) .ensures) _ _ ((c .enum-told2) .given .1)
 
--- src/check.rt:132:31
 part-requires : tie.Need-part-requires
 part-requires c κs = search needs
 
--- src/check.rt:132:9
 find-byte-requires : tie.Need-find-byte-requires
 find-byte-requires c κs = search needs
 
--- src/check.rt:134:35
 enum-told-3 : tie.Need-enum-told-3
 enum-told-3 c = search needs
 
--- src/check.rt:135:27
 enum-told-4 : tie.Need-enum-told-4
 enum-told-4 c = search needs
 
--- src/check.rt:125:1
 returns-2 : tie.Need-returns-2
 unfolding ampersand report
 returns-2 c = lettered-searched _ _ _ _ ((c .before .before .before .before .before .before .check-span) .ensures) _ _ ((c .before .before .before .before .enum-told) .given .1) (sym (rw ((c .before .before .before .part) .ensures) at ((c .before .before .find-byte) .ensures)) ∙ (c .enum-told3) .given .1)
 
--- src/check.rt:125:1
 returns-3 : tie.Need-returns-3
 unfolding ampersand report
 returns-3 c = lettered-searched _ _ _ _ ((c .before .before .before .before .before .before .check-span) .ensures) _ _ ((c .before .before .before .before .enum-told) .given .1) (sym (rw ((c .before .before .before .part) .ensures) at ((c .before .before .find-byte) .ensures)) ∙ (c .enum-told4) .given .1)

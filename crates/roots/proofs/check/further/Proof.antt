@@ -1,36 +1,26 @@
 use Rattle.roots.specs.Checking.{shifted, reach}
-use Prim.Native.Nat.{ℕ, suc, _≤_, _<_, _+_, _-_}
 use native.Mathlib.Omega.{arith}
-use mathlib.Core.Path.{_≡_, refl, sym, ap, subst, _∙_}
-use lib.ListN.{length, getD, take, drop}
+use mathlib.Core.Path.{ap}
 use borrow.Author.Needs.{needs}
 use Rattle.roots.proofs.check.further.Statement.{statement}
 use Rattle.roots.proofs.check.further.Tie as tie
-use Rattle.roots.proofs.check.further.Reads as reads
-use Rattle.roots.proofs.check.further.Lts as lts
 
--- src/check.rt:46:20
 enum-known-scan : tie.Need-enum-known-scan
 enum-known-scan c = search needs
 
--- src/check.rt:46:37
 add-t7 : tie.Need-add-t7
 add-t7 c = omega (arith, ap reach ((c .before .scan) .given .1))
 
--- src/check.rt:47:19
 enum-known-scan-2 : tie.Need-enum-known-scan-2
 enum-known-scan-2 c = search needs
 
--- src/check.rt:47:41
 add-t8 : tie.Need-add-t8
 add-t8 c = omega (arith, ap reach ((c .before .scan2) .given .1))
 
--- src/check.rt:41:1
 returns : tie.Need-returns
 unfolding shifted
 returns c = rw ((c .before .scan) .given .1)
 
--- src/check.rt:41:1
 returns-2 : tie.Need-returns-2
 unfolding shifted
 returns-2 c = rw ((c .before .scan2) .given .1)

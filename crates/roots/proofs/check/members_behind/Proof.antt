@@ -1,51 +1,34 @@
-use Rattle.definitions.specs.Reading.{membersAt}
 use Rattle.roots.proofs.Readings.{members-reads}
 use Rattle.roots.proofs.Behind.{part-reach, within-good, behind-good, behind-bad}
-use Prim.Native.Nat.{ℕ, suc, _≤_, _<_, _+_, _-_}
 use native.Mathlib.Omega.{arith}
-use mathlib.Core.Path.{_≡_, refl, sym, ap, subst, _∙_}
-use lib.ListN.{length, getD, take, drop}
 use borrow.Author.Needs.{needs}
 use Rattle.roots.proofs.check.members_behind.Statement.{statement}
 use Rattle.roots.proofs.check.members_behind.Tie as tie
-use Rattle.roots.proofs.check.members_behind.Reads as reads
-use Rattle.roots.proofs.check.members_behind.Lts as lts
-use Rattle.roots.proofs.check.check_members.Reads as check-members-reads
-use Rattle.roots.proofs.check.further.Reads as further-reads
 
--- src/check.rt:204:20
 enum-known-front : tie.Need-enum-known-front
 enum-known-front c = search needs
 
--- src/check.rt:205:9
 enum-told : tie.Need-enum-told
 enum-told c = search needs
 
--- src/check.rt:205:9
 returns : tie.Need-returns
 returns c = behind-bad _ ((c .enum-told) .given .1)
 
--- src/check.rt:207:36
 sub-check-members : tie.Need-sub-check-members
 sub-check-members c = omega (arith, within-good ((c .before .front) .given .1) (c .before .before .before .before .before .pre))
 
--- src/check.rt:207:36
 part-check-members-start : tie.Need-part-check-members-start
 part-check-members-start c = omega (arith, within-good ((c .before .front) .given .1) (c .before .before .before .before .before .pre))
 
--- src/check.rt:207:36
 part-check-members-end : tie.Need-part-check-members-end
 part-check-members-end c = search needs
 
--- src/check.rt:207:16
 check-members-requires : tie.Need-check-members-requires
 check-members-requires c κs = search needs
 
--- src/check.rt:207:5
 further-requires : tie.Need-further-requires
 further-requires c κs = omega (arith, part-reach (λ f t. members-reads f ((c .before .before .before .before .before .before .before .args) .text .now) t) ((c .before .before .before .front) .given .0 .0) ((c .before .before .before .before .before .before .before .args) .tape .now) (within-good ((c .before .before .before .front) .given .1) (c .before .before .before .before .before .before .before .pre) .1) ((c .check-members) .ensures))
 
--- src/check.rt:199:1
 returns-2 : tie.Need-returns-2
 returns-2 c = behind-good _ ((c .before .before .before .before .front) .given .1) (c .before .before .before .before .before .before .before .before .pre) ((c .before .check-members) .ensures) ((c .further) .ensures)
 

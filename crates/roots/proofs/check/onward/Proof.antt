@@ -1,28 +1,18 @@
 use Rattle.roots.specs.Checking.{going}
-use Prim.Native.Nat.{ℕ, suc, _≤_, _<_, _+_, _-_}
-use native.Mathlib.Omega.{arith}
-use mathlib.Core.Path.{_≡_, refl, sym, ap, subst, _∙_}
-use lib.ListN.{length, getD, take, drop}
 use borrow.Author.Needs.{needs}
 use Rattle.roots.proofs.check.onward.Statement.{statement}
 use Rattle.roots.proofs.check.onward.Tie as tie
-use Rattle.roots.proofs.check.onward.Reads as reads
-use Rattle.roots.proofs.check.onward.Lts as lts
 
--- src/check.rt:56:20
 enum-known-scan : tie.Need-enum-known-scan
 enum-known-scan c = search needs
 
--- src/check.rt:57:19
 enum-known-scan-2 : tie.Need-enum-known-scan-2
 enum-known-scan-2 c = search needs
 
--- src/check.rt:52:1
 returns : tie.Need-returns
 unfolding going
 returns c = rw ((c .before .scan) .given .1)
 
--- src/check.rt:52:1
 returns-2 : tie.Need-returns-2
 unfolding going
 returns-2 c = rw ((c .before .scan2) .given .1)

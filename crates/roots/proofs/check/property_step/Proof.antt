@@ -1,67 +1,45 @@
 use Rattle.roots.proofs.Firsts.{properties-property, properties-named, properties-end, properties-wrong, properties-cut}
 use Rattle.text.proofs.Lists.{told}
-use Prim.Native.Nat.{ℕ, suc, _≤_, _<_, _+_, _-_}
-use native.Mathlib.Omega.{arith}
-use mathlib.Core.Path.{_≡_, refl, sym, ap, subst, _∙_}
-use lib.ListN.{length, getD, take, drop}
 use borrow.Author.Needs.{needs}
 use Rattle.roots.proofs.check.property_step.Statement.{statement}
 use Rattle.roots.proofs.check.property_step.Tie as tie
-use Rattle.roots.proofs.check.property_step.Reads as reads
-use Rattle.roots.proofs.check.property_step.Lts as lts
-use Rattle.roots.proofs.check.check_span.Reads as check-span-reads
-use Rattle.roots.proofs.check.onward.Reads as onward-reads
-use Rattle.commands.proofs.root.property_command_at.Reads as property-command-at-reads
 
--- src/check.rt:229:9
 property-command-at-requires : tie.Need-property-command-at-requires
 property-command-at-requires c κs = search needs
 
--- src/check.rt:231:41
 enum-told : tie.Need-enum-told
 enum-told c = search needs
 
--- src/check.rt:232:35
 enum-known-command : tie.Need-enum-known-command
 enum-known-command c = search needs
 
--- src/check.rt:232:48
 check-span-requires : tie.Need-check-span-requires
 check-span-requires c κs = search needs
 
--- src/check.rt:232:41
 onward-requires : tie.Need-onward-requires
 onward-requires c κs = search needs
 
--- src/check.rt:233:33
 enum-told-2 : tie.Need-enum-told-2
 enum-told-2 c = search needs
 
--- src/check.rt:234:45
 enum-told-3 : tie.Need-enum-told-3
 enum-told-3 c = search needs
 
--- src/check.rt:235:43
 enum-told-4 : tie.Need-enum-told-4
 enum-told-4 c = search needs
 
--- src/check.rt:226:1
 returns : tie.Need-returns
 returns c = properties-property _ _ _ (told ((c .before .before .property-command-at) .ensures) ((c .enum-told) .given .1))
 
--- src/check.rt:226:1
 returns-2 : tie.Need-returns-2
 returns-2 c = properties-named _ _ _ _ (told ((c .before .before .before .before .before .property-command-at) .ensures) ((c .before .before .before .command) .given .1)) ((c .before .check-span) .ensures) ((c .onward) .ensures)
 
--- src/check.rt:226:1
 returns-3 : tie.Need-returns-3
 returns-3 c = properties-end _ _ (told ((c .before .before .property-command-at) .ensures) ((c .enum-told2) .given .1))
 
--- src/check.rt:226:1
 returns-4 : tie.Need-returns-4
 returns-4 c = properties-wrong _ _ (told ((c .before .before .property-command-at) .ensures) ((c .enum-told3) .given .1))
 
--- src/check.rt:226:1
 returns-5 : tie.Need-returns-5
 returns-5 c = properties-cut _ _ (told ((c .before .before .property-command-at) .ensures) ((c .enum-told4) .given .1))
 

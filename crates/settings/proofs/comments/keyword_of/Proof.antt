@@ -24,7 +24,11 @@ same-requires-2 c κs = search needs
 
 returns-2 : tie.Need-returns-2
 unfolding keywordFor knownFor keywordOf
-returns-2 c = sym (rw (told (c .before .before .before .before .same .ensures) (c .before .before .before .if1 .left), told (c .before .same2 .ensures) (c .if2 .taken)))
+returns-2 c =
+    sym (rw (
+      told (c .before .before .before .before .same .ensures) (c .before .before .before .if1 .left),
+      told (c .before .same2 .ensures) (c .if2 .taken),
+    ))
 
 slice-aggregate-same-3 : tie.Need-slice-aggregate-same-3
 slice-aggregate-same-3 c = search needs
@@ -34,7 +38,13 @@ same-requires-3 c κs = search needs
 
 returns-3 : tie.Need-returns-3
 unfolding keywordFor knownFor keywordOf
-returns-3 c = sym (rw (told (c .before .before .before .before .before .before .before .same .ensures) (c .before .before .before .before .before .before .if1 .left), told (c .before .before .before .before .same2 .ensures) (c .before .before .before .if2 .left), told (c .before .same3 .ensures) (c .if3 .taken)))
+returns-3 c =
+    sym (rw (
+      told (c .before .before .before .before .before .before .before .same .ensures)
+          (c .before .before .before .before .before .before .if1 .left),
+      told (c .before .before .before .before .same2 .ensures) (c .before .before .before .if2 .left),
+      told (c .before .same3 .ensures) (c .if3 .taken),
+    ))
 
 slice-aggregate-same-4 : tie.Need-slice-aggregate-same-4
 slice-aggregate-same-4 c = search needs
@@ -44,11 +54,25 @@ same-requires-4 c κs = search needs
 
 returns-4 : tie.Need-returns-4
 unfolding keywordFor knownFor keywordOf
-returns-4 c = sym (rw (told (c .before .before .before .before .before .before .before .before .before .before .same .ensures) (c .before .before .before .before .before .before .before .before .before .if1 .left), told (c .before .before .before .before .before .before .before .same2 .ensures) (c .before .before .before .before .before .before .if2 .left), told (c .before .before .before .before .same3 .ensures) (c .before .before .before .if3 .left), told (c .before .same4 .ensures) (c .if4 .taken)))
+returns-4 c =
+    sym (rw (
+      told (c .before .before .before .before .before .before .before .before .before .before .same .ensures)
+          (c .before .before .before .before .before .before .before .before .before .if1 .left),
+      told (c .before .before .before .before .before .before .before .same2 .ensures) (c .before .before .before .before .before .before .if2 .left),
+      told (c .before .before .before .before .same3 .ensures) (c .before .before .before .if3 .left),
+      told (c .before .same4 .ensures) (c .if4 .taken),
+    ))
 
 returns-5 : tie.Need-returns-5
 unfolding keywordFor knownFor keywordOf
-returns-5 c = sym (rw (told (c .before .before .before .before .before .before .before .before .before .before .same .ensures) (c .before .before .before .before .before .before .before .before .before .if1 .left), told (c .before .before .before .before .before .before .before .same2 .ensures) (c .before .before .before .before .before .before .if2 .left), told (c .before .before .before .before .same3 .ensures) (c .before .before .before .if3 .left), told (c .before .same4 .ensures) (c .if4 .left)))
+returns-5 c =
+    sym (rw (
+      told (c .before .before .before .before .before .before .before .before .before .before .same .ensures)
+          (c .before .before .before .before .before .before .before .before .before .if1 .left),
+      told (c .before .before .before .before .before .before .before .same2 .ensures) (c .before .before .before .before .before .before .if2 .left),
+      told (c .before .before .before .before .same3 .ensures) (c .before .before .before .if3 .left),
+      told (c .before .same4 .ensures) (c .if4 .left),
+    ))
 
 pub keyword-of-spec : {M : Type 1} → statement M
 keyword-of-spec =

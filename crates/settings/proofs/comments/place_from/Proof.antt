@@ -25,7 +25,9 @@ is-in-requires : tie.Need-is-in-requires Inv-loop μ-loop
 is-in-requires c κs = search needs
 
 returns : tie.Need-returns Inv-loop μ-loop
-returns c = sym (c .before .before .before .before .loop .inv ∙ find-hit _ _ _ (c .before .before .before .loop-test .taken) (told (c .before .is-in .ensures) (c .if1 .taken)))
+returns c = sym
+    (c .before .before .before .before .loop .inv
+    ∙ find-hit _ _ _ (c .before .before .before .loop-test .taken) (told (c .before .is-in .ensures) (c .if1 .taken)))
 
 add-i : tie.Need-add-i Inv-loop μ-loop
 add-i c = search needs
@@ -34,7 +36,9 @@ loop-less : tie.Need-loop-less Inv-loop μ-loop
 loop-less c = search needs
 
 loop-again : tie.Need-loop-again Inv-loop μ-loop
-loop-again c = c .before .before .before .before .loop .inv ∙ find-step _ _ _ (c .before .before .before .loop-test .taken) (told (c .before .is-in .ensures) (c .if1 .left))
+loop-again c =
+    c .before .before .before .before .loop .inv
+    ∙ find-step _ _ _ (c .before .before .before .loop-test .taken) (told (c .before .is-in .ensures) (c .if1 .left))
 
 returns-2 : tie.Need-returns-2 Inv-loop μ-loop
 returns-2 c = sym (c .before .loop .inv ∙ find-end _ _ _ (c .loop-test .left))

@@ -33,7 +33,8 @@ part-result-end c = search needs
 
 returns : tie.Need-returns
 unfolding orElse
-returns c = let l = c .before .before .before .before .before .args .comment .now in rw (told (c .before .before .before .place-from .ensures) (c .before .enum-told .given .1)) (tail-part l (length l))
+returns c = let l = c .before .before .before .before .before .args .comment .now in
+    rw (told (c .before .before .before .place-from .ensures) (c .before .enum-told .given .1)) (tail-part l (length l))
 
 sub-result-2 : tie.Need-sub-result-2
 sub-result-2 c = omega (arith, inside c)
@@ -46,7 +47,9 @@ part-result-end-2 c = search needs
 
 returns-2 : tie.Need-returns-2
 unfolding orElse
-returns-2 c = rw (told (c .before .before .before .before .place-from .ensures) (c .before .before .i .given .1)) (tail-part (c .before .before .before .before .before .before .args .comment .now) (c .before .before .i .given .0 .0))
+returns-2 c =
+    rw (told (c .before .before .before .before .place-from .ensures) (c .before .before .i .given .1))
+    (tail-part (c .before .before .before .before .before .before .args .comment .now) (c .before .before .i .given .0 .0))
 
 pub skip-blanks-spec : {M : Type 1} → statement M
 skip-blanks-spec =

@@ -17,20 +17,36 @@ abbrev μ-loop : tie.MeasureT-loop
 μ-loop text content base held₀ from₀ held from = length content - from
 
 -- the comment is a part of the text
-whole : (c : tie.After-struct-known Inv-loop μ-loop) → commentFrom (length (c .before .part .result .now)) (c .before .before .before .args .options) (c .before .before .before .args .comment .start) (c .before .part .result .now) 0 ≡ withComment (c .before .before .before .args .text .now) (c .before .before .before .args .options) (c .before .before .before .args .comment)
+whole : (c : tie.After-struct-known Inv-loop μ-loop)
+    → commentFrom (length (c .before .part .result .now)) (c .before .before .before .args .options)
+    (c .before .before .before .args .comment .start) (c .before .part .result .now) 0
+    ≡ withComment (c .before .before .before .args .text .now) (c .before .before .before .args .options) (c .before .before .before .args .comment)
 unfolding withComment
-whole c = ap (λ (l : List ℕ). commentFrom (length l) (c .before .before .before .args .options) (c .before .before .before .args .comment .start) l 0) (c .before .part .ensures)
+whole c = ap
+    (λ (l : List ℕ). commentFrom (length l) (c .before .before .before .args .options) (c .before .before .before .args .comment .start) l 0)
+    (c .before .part .ensures)
 
 fits : (c : tie.After-struct-known Inv-loop μ-loop) → c .before .before .before .args .comment .start + length (c .before .part .result .now) ≤ 65535
 fits c = rw (c .before .part .ensures) (comment-fits _ _ (c .before .before .before .pre) (search needs))
 
 -- the pragma that was found, and where its value lies
-hit : (c : tie.After-known-told Inv-loop μ-loop) → seek (length (c .before .before .before .before .before .before .part .result .now)) (c .before .before .before .before .before .before .part .result .now) (c .before .before .before .before .loop .from) ≡ pragma (knownFor (c .before .kind .given .0 .0)) (c .before .kind .given .0 .1 .0)
+hit : (c : tie.After-known-told Inv-loop μ-loop)
+    → seek (length (c .before .before .before .before .before .before .part .result .now))
+    (c .before .before .before .before .before .before .part .result .now) (c .before .before .before .before .loop .from)
+    ≡ pragma (knownFor (c .before .kind .given .0 .0)) (c .before .kind .given .0 .1 .0)
 unfolding searchFor
 hit c = sym (c .before .before .before .find-jsx-pragma .ensures) ∙ rw (c .before .kind .given .1)
 
-lies : (c : tie.Else1 Inv-loop μ-loop) → (c .before .before .before .before .before .before .before .loop .from < length (c .before .before .before .before .before .before .before .before .before .part .result .now) - length (c .before .before .skip-blanks .result .now)) × (length (c .before .before .skip-blanks .result .now) ≤ length (c .before .before .before .before .before .before .before .before .before .part .result .now)) × (length (c .before .value-of .result .now) ≤ length (c .before .before .skip-blanks .result .now))
-lies c = let p = place _ _ _ _ _ (c .before .before .before .before .before .before .before .loop .inv .1) _ _ (hit (c .before .before .before)) _ _ (c .before .before .skip-blanks .ensures) (c .before .value-of .ensures) in (p .1, p .2, p .3)
+lies : (c : tie.Else1 Inv-loop μ-loop)
+    → (c .before .before .before .before .before .before .before .loop .from < length
+    (c .before .before .before .before .before .before .before .before .before .part .result .now) - length
+    (c .before .before .skip-blanks .result .now))
+    × (length (c .before .before .skip-blanks .result .now) ≤ length
+    (c .before .before .before .before .before .before .before .before .before .part .result .now))
+    × (length (c .before .value-of .result .now) ≤ length (c .before .before .skip-blanks .result .now))
+lies c = let p =
+    place _ _ _ _ _ (c .before .before .before .before .before .before .before .loop .inv .1) _ _ (hit (c .before .before .before)) _ _
+    (c .before .before .skip-blanks .ensures) (c .before .value-of .ensures) in (p .1, p .2, p .3)
 
 part-requires : tie.Need-part-requires Inv-loop μ-loop
 part-requires c κs = search needs
@@ -52,7 +68,9 @@ enum-told c = search needs
 
 returns : tie.Need-returns Inv-loop μ-loop
 unfolding searchFor
-returns c = sym (ended _ _ _ _ _ (c .before .before .before .loop .inv .1) (sym (c .before .before .find-jsx-pragma .ensures) ∙ rw (c .enum-told .given .1))) ∙ whole (c .before .before .before .before)
+returns c = sym
+    (ended _ _ _ _ _ (c .before .before .before .loop .inv .1) (sym (c .before .before .find-jsx-pragma .ensures) ∙ rw (c .enum-told .given .1)))
+    ∙ whole (c .before .before .before .before)
 
 skip-blanks-requires : tie.Need-skip-blanks-requires Inv-loop μ-loop
 skip-blanks-requires c κs = search needs
@@ -61,7 +79,10 @@ value-of-requires : tie.Need-value-of-requires Inv-loop μ-loop
 value-of-requires c κs = search needs
 
 returns-2 : tie.Need-returns-2 Inv-loop μ-loop
-returns-2 c = sym (empty _ _ _ _ _ (c .before .before .before .before .before .before .before .loop .inv .1) _ _ (hit (c .before .before .before)) _ _ (c .before .before .skip-blanks .ensures) (c .before .value-of .ensures) (c .if1 .taken)) ∙ whole (c .before .before .before .before .before .before .before .before)
+returns-2 c =
+    sym (empty _ _ _ _ _ (c .before .before .before .before .before .before .before .loop .inv .1) _ _ (hit (c .before .before .before)) _ _
+    (c .before .before .skip-blanks .ensures) (c .before .value-of .ensures) (c .if1 .taken))
+    ∙ whole (c .before .before .before .before .before .before .before .before)
 
 sub-start : tie.Need-sub-start Inv-loop μ-loop
 sub-start c = lies c .1
@@ -82,7 +103,13 @@ add-end : tie.Need-add-end Inv-loop μ-loop
 add-end c = omega (arith, lies (c .before), fits (c .before .before .before .before .before .before .before .before .before))
 
 returns-3 : tie.Need-returns-3 Inv-loop μ-loop
-returns-3 c = c .before .apply .ensures ∙ sym (past _ _ _ _ _ (onward _ _ _ _ _ (c .before .before .before .before .before .before .before .before .before .loop .inv .1) _ _ (hit (c .before .before .before .before .before)) _ _ (c .before .before .before .before .skip-blanks .ensures) (c .before .before .before .value-of .ensures) (c .before .before .if1 .left)) (omega arith)) ∙ whole (c .before .before .before .before .before .before .before .before .before .before)
+returns-3 c =
+    c .before .apply .ensures
+    ∙ sym (past _ _ _ _ _
+    (onward _ _ _ _ _ (c .before .before .before .before .before .before .before .before .before .loop .inv .1) _ _
+    (hit (c .before .before .before .before .before)) _ _ (c .before .before .before .before .skip-blanks .ensures)
+    (c .before .before .before .value-of .ensures) (c .before .before .if1 .left)) (omega arith))
+    ∙ whole (c .before .before .before .before .before .before .before .before .before .before)
 
 add-from : tie.Need-add-from Inv-loop μ-loop
 add-from c = search needs
@@ -91,7 +118,13 @@ loop-less : tie.Need-loop-less Inv-loop μ-loop
 loop-less c = omega (arith, lies (c .before .before))
 
 loop-again : tie.Need-loop-again Inv-loop μ-loop
-loop-again c = (omega (arith, lies (c .before .before)), rw (c .before .apply .ensures) (onward _ _ _ _ _ (c .before .before .before .before .before .before .before .before .before .loop .inv .1) _ _ (hit (c .before .before .before .before .before)) _ _ (c .before .before .before .before .skip-blanks .ensures) (c .before .before .before .value-of .ensures) (c .before .before .if1 .left)))
+loop-again c = (
+  omega (arith, lies (c .before .before)),
+  rw (c .before .apply .ensures)
+      (onward _ _ _ _ _ (c .before .before .before .before .before .before .before .before .before .loop .inv .1) _ _
+      (hit (c .before .before .before .before .before)) _ _ (c .before .before .before .before .skip-blanks .ensures)
+      (c .before .before .before .value-of .ensures) (c .before .before .if1 .left)),
+)
 
 pub update-options-with-comment-spec : {M : Type 1} → statement M
 update-options-with-comment-spec =

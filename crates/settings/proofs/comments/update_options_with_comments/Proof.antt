@@ -10,7 +10,8 @@ use Rattle.settings.proofs.comments.update_options_with_comments.Statem
 use Rattle.settings.proofs.comments.update_options_with_comments.Tie as tie
 
 abbrev Inv-loop : tie.InvT-loop
-Inv-loop text tape held₀ i₀ held i = (i ≤ length tape + 3) × (withComments text held₀ (commentsOf (drop 3 tape)) ≡ withComments text held (commentsOf (drop i tape)))
+Inv-loop text tape held₀ i₀ held i =
+    (i ≤ length tape + 3) × (withComments text held₀ (commentsOf (drop 3 tape)) ≡ withComments text held (commentsOf (drop i tape)))
 
 abbrev μ-loop : tie.MeasureT-loop
 μ-loop text tape held₀ i₀ held i = length tape + 3 - i
@@ -41,13 +42,24 @@ loop-less : tie.Need-loop-less Inv-loop μ-loop
 loop-less c = search needs
 
 loop-again : tie.Need-loop-again Inv-loop μ-loop
-loop-again c = (omega arith, c .before .before .before .before .before .loop .inv .1 ∙ comment-here _ _ (c .before .before .before .before .before .before .before .before .args .tape .now) _ (c .before .before .before .before .loop-test .taken) (c .before .before .if1 .taken) ∙ sym (rw (c .update-options-with-comment .ensures, c .before .read-span .ensures)))
+loop-again c = (
+  omega arith,
+  c .before .before .before .before .before .loop .inv .1
+      ∙ comment-here _ _ (c .before .before .before .before .before .before .before .before .args .tape .now) _
+      (c .before .before .before .before .loop-test .taken) (c .before .before .if1 .taken)
+      ∙ sym (rw (c .update-options-with-comment .ensures, c .before .read-span .ensures)),
+)
 
 loop-less-2 : tie.Need-loop-less-2 Inv-loop μ-loop
 loop-less-2 c = search needs
 
 loop-again-2 : tie.Need-loop-again-2 Inv-loop μ-loop
-loop-again-2 c = (omega arith, c .before .before .before .loop .inv .1 ∙ comment-elsewhere _ _ (c .before .before .before .before .before .before .args .tape .now) _ (c .before .before .loop-test .taken) (c .if1 .left))
+loop-again-2 c = (
+  omega arith,
+  c .before .before .before .loop .inv .1
+      ∙ comment-elsewhere _ _ (c .before .before .before .before .before .before .args .tape .now) _ (c .before .before .loop-test .taken)
+      (c .if1 .left),
+)
 
 returns : tie.Need-returns Inv-loop μ-loop
 returns c = sym (c .before .loop .inv .1 ∙ comments-over _ _ (c .before .before .before .before .args .tape .now) _ (c .loop-test .left))

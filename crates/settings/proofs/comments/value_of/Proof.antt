@@ -31,7 +31,12 @@ part-result-start : tie.Need-part-result-start
 part-result-start c = search needs
 
 part-result-end : tie.Need-part-result-end
-part-result-end c = omega (arith, place-range (isIn White) (c .before .before .before .before .before .args .rest .now) 0 (c .before .n .given .0 .0) (told (c .before .before .before .place-from .ensures) (c .before .n .given .1)))
+part-result-end c =
+    omega (
+      arith,
+      place-range (isIn White) (c .before .before .before .before .before .args .rest .now) 0 (c .before .n .given .0 .0)
+          (told (c .before .before .before .place-from .ensures) (c .before .n .given .1)),
+    )
 
 returns-2 : tie.Need-returns-2
 unfolding orElse

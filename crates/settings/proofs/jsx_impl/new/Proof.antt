@@ -20,7 +20,13 @@ form-under-requires-2 c κs = search needs
 
 returns : tie.Need-returns
 unfolding settingsOf
-returns c = rw (c .form-under2 .ensures, c .before .form-under .ensures, c .before .before .before .is-absent2 .ensures, c .before .before .before .before .is-absent .ensures, c .before .before .before .before .before .mode-of .ensures)
+returns c = rw (
+  c .form-under2 .ensures,
+  c .before .form-under .ensures,
+  c .before .before .before .is-absent2 .ensures,
+  c .before .before .before .before .is-absent .ensures,
+  c .before .before .before .before .before .mode-of .ensures,
+)
 
 pub new-spec : {M : Type 1} → statement M
 new-spec =

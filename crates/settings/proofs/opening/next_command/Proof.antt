@@ -20,17 +20,26 @@ enum-told-3 c = search needs
 enum-known-s : tie.Need-enum-known-s
 enum-known-s c = search needs
 
+with-given-requires : tie.Need-with-given-requires
+with-given-requires c κs = search needs
+
 spanned-requires : tie.Need-spanned-requires
 spanned-requires c κs = search needs
 
 enum-known-s-2 : tie.Need-enum-known-s-2
 enum-known-s-2 c = search needs
 
+with-given-requires-2 : tie.Need-with-given-requires-2
+with-given-requires-2 c κs = search needs
+
 spanned-requires-2 : tie.Need-spanned-requires-2
 spanned-requires-2 c κs = search needs
 
 enum-known-s-3 : tie.Need-enum-known-s-3
 enum-known-s-3 c = search needs
+
+with-given-requires-3 : tie.Need-with-given-requires-3
+with-given-requires-3 c κs = search needs
 
 spanned-requires-3 : tie.Need-spanned-requires-3
 spanned-requires-3 c κs = search needs
@@ -55,15 +64,24 @@ returns-3 c = sym (rw (told (c .before .before .option-command-at .ensures) (c .
 
 returns-4 : tie.Need-returns-4
 unfolding nextBy
-returns-4 c = c .spanned .ensures ∙ sym (rw (told (c .before .before .before .before .option-command-at .ensures) (c .before .before .s .given .1)))
+returns-4 c =
+    c .spanned .ensures
+    ∙ rw (c .before .with-given .ensures)
+    (sym (rw (told (c .before .before .before .before .before .option-command-at .ensures) (c .before .before .before .s .given .1))))
 
 returns-5 : tie.Need-returns-5
 unfolding nextBy
-returns-5 c = c .spanned2 .ensures ∙ sym (rw (told (c .before .before .before .before .option-command-at .ensures) (c .before .before .s2 .given .1)))
+returns-5 c =
+    c .spanned2 .ensures
+    ∙ rw (c .before .with-given2 .ensures)
+    (sym (rw (told (c .before .before .before .before .before .option-command-at .ensures) (c .before .before .before .s2 .given .1))))
 
 returns-6 : tie.Need-returns-6
 unfolding nextBy
-returns-6 c = c .spanned3 .ensures ∙ sym (rw (told (c .before .before .before .before .option-command-at .ensures) (c .before .before .s3 .given .1)))
+returns-6 c =
+    c .spanned3 .ensures
+    ∙ rw (c .before .with-given3 .ensures)
+    (sym (rw (told (c .before .before .before .before .before .option-command-at .ensures) (c .before .before .before .s3 .given .1))))
 
 returns-7 : tie.Need-returns-7
 unfolding nextBy
@@ -78,10 +96,13 @@ next-command-spec =
     enum-told-2
     enum-told-3
     enum-known-s
+    with-given-requires
     spanned-requires
     enum-known-s-2
+    with-given-requires-2
     spanned-requires-2
     enum-known-s-3
+    with-given-requires-3
     spanned-requires-3
     enum-known-s-4
     spanned-requires-4

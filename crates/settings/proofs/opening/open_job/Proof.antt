@@ -40,11 +40,23 @@ open-text-requires c κs = search needs
 
 returns-3 : tie.Need-returns-3
 unfolding opened judgeOpening refuse refuseAt
-returns-3 c = c .refused3 .ensures ∙ sym (rw (le-ltb _ _ (c .before .before .before .before .before .before .if1 .left), le-ltb _ _ (c .before .before .before .before .before .if2 .left), told (c .before .before .before .before .first-ill-formed .ensures) (c .before .before .place .given .1)))
+returns-3 c =
+    c .refused3 .ensures
+    ∙ sym (rw (
+      le-ltb _ _ (c .before .before .before .before .before .before .if1 .left),
+      le-ltb _ _ (c .before .before .before .before .before .if2 .left),
+      told (c .before .before .before .before .first-ill-formed .ensures) (c .before .before .place .given .1),
+    ))
 
 returns-4 : tie.Need-returns-4
 unfolding opened judgeOpening refuse refuseAt openedTape
-returns-4 c = c .open-text .ensures ∙ sym (rw (le-ltb _ _ (c .before .before .before .before .before .if1 .left), le-ltb _ _ (c .before .before .before .before .if2 .left), told (c .before .before .before .first-ill-formed .ensures) (c .before .enum-told .given .1)))
+returns-4 c =
+    c .open-text .ensures
+    ∙ sym (rw (
+      le-ltb _ _ (c .before .before .before .before .before .if1 .left),
+      le-ltb _ _ (c .before .before .before .before .if2 .left),
+      told (c .before .before .before .first-ill-formed .ensures) (c .before .enum-told .given .1),
+    ))
 
 pub open-job-spec : {M : Type 1} → statement M
 open-job-spec =

@@ -39,11 +39,23 @@ returns c = c .refused .ensures ∙ sym (rw (told (c .before .before .before .be
 
 returns-2 : tie.Need-returns-2
 unfolding pragmasChecked refuseAt
-returns-2 c = c .refused2 .ensures ∙ sym (rw (told (c .before .before .before .before .before .before .before .over-ascii-under .ensures) (c .before .before .before .before .before .enum-told .given .1), told (c .before .before .before .before .over-ascii-under2 .ensures) (c .before .before .place2 .given .1)))
+returns-2 c =
+    c .refused2 .ensures
+    ∙ sym (rw (
+      told (c .before .before .before .before .before .before .before .over-ascii-under .ensures)
+          (c .before .before .before .before .before .enum-told .given .1),
+      told (c .before .before .before .before .over-ascii-under2 .ensures) (c .before .before .place2 .given .1),
+    ))
 
 returns-3 : tie.Need-returns-3
 unfolding pragmasChecked refuseAt
-returns-3 c = c .accepted .ensures ∙ sym (rw (told (c .before .before .before .before .before .before .over-ascii-under .ensures) (c .before .before .before .before .enum-told .given .1), told (c .before .before .before .over-ascii-under2 .ensures) (c .before .enum-told2 .given .1)))
+returns-3 c =
+    c .accepted .ensures
+    ∙ sym (rw (
+      told (c .before .before .before .before .before .before .over-ascii-under .ensures)
+          (c .before .before .before .before .enum-told .given .1),
+      told (c .before .before .before .over-ascii-under2 .ensures) (c .before .enum-told2 .given .1),
+    ))
 
 pub open-settings-spec : {M : Type 1} → statement M
 open-settings-spec =

@@ -28,10 +28,23 @@ open-settings-requires : tie.Need-open-settings-requires
 open-settings-requires c κs = search needs
 
 returns : tie.Need-returns
-returns c = c .refused .ensures ∙ sym (ap openedBy (tape-refused _ _ _ _ (c .before .before .before .before .read-opening .ensures ∙ ap (judgedBy (c .before .before .before .before .before .before .before .args .text .now) (c .before .before .before .before .before .before .before .args .tape .now)) (c .before .before .fault .given .1))))
+returns c = c .refused .ensures
+    ∙ sym (ap openedBy
+    (tape-refused _ _ _ _
+    (c .before .before .before .before .read-opening .ensures
+    ∙ ap (judgedBy (c .before .before .before .before .before .before .before .args .text .now)
+    (c .before .before .before .before .before .before .before .args .tape .now)) (c .before .before .fault .given .1))))
 
 returns-2 : tie.Need-returns-2
-returns-2 c = c .open-settings .ensures ∙ rw (c .before .new .ensures, c .before .before .update-options-with-comments .ensures) (sym (ap openedBy (tape-read _ _ _ (c .before .before .before .before .before .before .read-opening .ensures ∙ ap (judgedBy (c .before .before .before .before .before .before .before .before .before .args .text .now) (c .before .before .before .before .before .before .before .before .before .args .tape .now)) (c .before .before .before .before .options .given .1)))))
+returns-2 c =
+    c .open-settings .ensures
+    ∙ rw (c .before .new .ensures, c .before .before .update-options-with-comments .ensures)
+    (sym (ap openedBy
+    (tape-read _ _ _
+    (c .before .before .before .before .before .before .read-opening .ensures
+    ∙ ap (judgedBy (c .before .before .before .before .before .before .before .before .before .args .text .now)
+    (c .before .before .before .before .before .before .before .before .before .args .tape .now))
+    (c .before .before .before .before .options .given .1)))))
 
 pub open-text-spec : {M : Type 1} → statement M
 open-text-spec =

@@ -30,7 +30,11 @@ enum-told-2 c = search needs
 
 returns : tie.Need-returns
 unfolding overAsciiIn shifted
-returns c = sym (rw (c .before .before .before .before .before .pragma .given .1, told (c .before .before .find-over-ascii .ensures ∙ ap (find overAscii) (c .before .before .before .part .ensures)) (c .enum-told2 .given .1)))
+returns c = sym
+    (rw (
+      c .before .before .before .before .before .pragma .given .1,
+      told (c .before .before .find-over-ascii .ensures ∙ ap (find overAscii) (c .before .before .before .part .ensures)) (c .enum-told2 .given .1),
+    ))
 
 cast-t8 : tie.Need-cast-t8
 cast-t8 c = search needs
@@ -39,8 +43,15 @@ add-t9 : tie.Need-add-t9
 unfolding partOf
 add-t9 c =
     let s = c .before .before .before .before .before .before .before .pragma .given .0 .0 in
-    let e = told (c .before .before .before .before .find-over-ascii .ensures ∙ ap (find overAscii) (c .before .before .before .before .before .part .ensures)) (c .before .before .place .given .1) in
-    omega (arith, find-found overAscii (partOf (c .before .before .before .before .before .before .before .before .before .before .args .text .now) s) (c .before .before .place .given .0 .0) e .inside, length-take (s .len) (drop (s .start) (c .before .before .before .before .before .before .before .before .before .before .args .text .now)))
+    let e = told
+    (c .before .before .before .before .find-over-ascii .ensures
+    ∙ ap (find overAscii) (c .before .before .before .before .before .part .ensures)) (c .before .before .place .given .1) in
+    omega (
+      arith,
+      find-found overAscii (partOf (c .before .before .before .before .before .before .before .before .before .before .args .text .now) s)
+          (c .before .before .place .given .0 .0) e .inside,
+      length-take (s .len) (drop (s .start) (c .before .before .before .before .before .before .before .before .before .before .args .text .now)),
+    )
 
 returns-2 : tie.Need-returns-2
 unfolding overAsciiIn
@@ -48,7 +59,12 @@ returns-2 c = sym (rw (c .enum-told .given .1))
 
 returns-3 : tie.Need-returns-3
 unfolding overAsciiIn shifted
-returns-3 c = sym (rw (c .before .before .before .before .before .before .before .pragma .given .1, told (c .before .before .before .before .find-over-ascii .ensures ∙ ap (find overAscii) (c .before .before .before .before .before .part .ensures)) (c .before .before .place .given .1)))
+returns-3 c =
+    sym (rw (
+      c .before .before .before .before .before .before .before .pragma .given .1,
+      told (c .before .before .before .before .find-over-ascii .ensures
+          ∙ ap (find overAscii) (c .before .before .before .before .before .part .ensures)) (c .before .before .place .given .1),
+    ))
 
 pub over-ascii-in-spec : {M : Type 1} → statement M
 over-ascii-in-spec =

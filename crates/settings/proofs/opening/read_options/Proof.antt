@@ -17,8 +17,13 @@ abbrev μ-loop : tie.MeasureT-loop
 μ-loop text n tape options₀ last₀ i₀ options last i = length tape - i
 
 -- the command at place i
-command : (c : tie.After-next-command Inv-loop μ-loop) → c .next-command .result ≡ nextBy (c .before .before .before .before .before .before .args .text .now) (drop (c .before .before .loop .i) (c .before .before .before .before .before .before .args .tape .now)) (c .before .before .loop .options) (optionCommand (c .before .before .loop .last) (drop (c .before .before .loop .i) (c .before .before .before .before .before .before .args .tape .now)))
-command c = rw (tail-part (c .before .before .before .before .before .before .args .tape .now) (c .before .before .loop .i)) at (c .next-command .ensures)
+command : (c : tie.After-next-command Inv-loop μ-loop) → c .next-command .result
+    ≡ nextBy (c .before .before .before .before .before .before .args .text .now)
+    (drop (c .before .before .loop .i) (c .before .before .before .before .before .before .args .tape .now)) (c .before .before .loop .options)
+    (optionCommand (c .before .before .loop .last)
+    (drop (c .before .before .loop .i) (c .before .before .before .before .before .before .args .tape .now)))
+command c = rw (tail-part (c .before .before .before .before .before .before .args .tape .now) (c .before .before .loop .i)) at
+    (c .next-command .ensures)
 
 bare-options-requires : tie.Need-bare-options-requires Inv-loop μ-loop
 bare-options-requires c κs = search needs
@@ -43,29 +48,58 @@ enum-told c = search needs
 
 returns : tie.Need-returns Inv-loop μ-loop
 unfolding judgedBy
-returns c = at-end _ _ _ _ _ _ (c .before .before .before .before .loop .inv .0) (c .before .before .before .before .loop .inv .1) (told (command (c .before .before)) (c .enum-told .given .1))
+returns c = at-end _ _ _ _ _ _ (c .before .before .before .before .loop .inv .0) (c .before .before .before .before .loop .inv .1)
+    (told (command (c .before .before)) (c .enum-told .given .1))
 
 enum-known-fault : tie.Need-enum-known-fault Inv-loop μ-loop
 enum-known-fault c = search needs
 
 add-t16 : tie.Need-add-t16 Inv-loop μ-loop
-add-t16 c = omega (arith, fault-inside (c .before .before .before .before .before .before .before .before .before .args .text .now) (c .before .before .before .before .before .before .before .before .before .args .tape .now) _ _ _ _ (c .before .before .before .before .before .loop .inv .0) (c .before .before .before .before .before .loop .inv .1) _ _ (told (command (c .before .before .before)) (c .before .fault .given .1)))
+add-t16 c = omega (
+  arith,
+  fault-inside (c .before .before .before .before .before .before .before .before .before .args .text .now)
+      (c .before .before .before .before .before .before .before .before .before .args .tape .now) _ _ _ _
+      (c .before .before .before .before .before .loop .inv .0) (c .before .before .before .before .before .loop .inv .1) _ _
+      (told (command (c .before .before .before)) (c .before .fault .given .1)),
+)
 
 returns-2 : tie.Need-returns-2 Inv-loop μ-loop
 unfolding judgedBy
-returns-2 c = at-fault _ _ _ _ _ _ (c .before .before .before .before .before .loop .inv .0) (c .before .before .before .before .before .loop .inv .1) _ _ (told (command (c .before .before .before)) (c .before .fault .given .1))
+returns-2 c =
+    at-fault _ _ _ _ _ _ (c .before .before .before .before .before .loop .inv .0) (c .before .before .before .before .before .loop .inv .1) _ _
+    (told (command (c .before .before .before)) (c .before .fault .given .1))
 
 enum-known-next : tie.Need-enum-known-next Inv-loop μ-loop
 enum-known-next c = search needs
 
 add-i : tie.Need-add-i Inv-loop μ-loop
-add-i c = omega (arith, command-inside (c .before .before .before .before .before .before .before .before .before .args .text .now) (c .before .before .before .before .before .before .before .before .before .args .tape .now) _ _ _ _ (c .before .before .before .before .before .loop .inv .0) (c .before .before .before .before .before .loop .inv .1) _ _ (told (command (c .before .before .before)) (c .before .next .given .1)))
+add-i c = omega (
+  arith,
+  command-inside (c .before .before .before .before .before .before .before .before .before .args .text .now)
+      (c .before .before .before .before .before .before .before .before .before .args .tape .now) _ _ _ _
+      (c .before .before .before .before .before .loop .inv .0) (c .before .before .before .before .before .loop .inv .1) _ _
+      (told (command (c .before .before .before)) (c .before .next .given .1)),
+)
 
 loop-less : tie.Need-loop-less Inv-loop μ-loop
-loop-less c = omega (arith, command-inside (c .before .before .before .before .before .before .before .before .before .args .text .now) (c .before .before .before .before .before .before .before .before .before .args .tape .now) _ _ _ _ (c .before .before .before .before .before .loop .inv .0) (c .before .before .before .before .before .loop .inv .1) _ _ (told (command (c .before .before .before)) (c .before .next .given .1)))
+loop-less c =
+    omega (
+      arith,
+      command-inside (c .before .before .before .before .before .before .before .before .before .args .text .now)
+          (c .before .before .before .before .before .before .before .before .before .args .tape .now) _ _ _ _
+          (c .before .before .before .before .before .loop .inv .0) (c .before .before .before .before .before .loop .inv .1) _ _
+          (told (command (c .before .before .before)) (c .before .next .given .1)),
+    )
 
 loop-again : tie.Need-loop-again Inv-loop μ-loop
-loop-again c = (command-inside (c .before .before .before .before .before .before .before .before .before .args .text .now) (c .before .before .before .before .before .before .before .before .before .args .tape .now) _ _ _ _ (c .before .before .before .before .before .loop .inv .0) (c .before .before .before .before .before .loop .inv .1) _ _ (told (command (c .before .before .before)) (c .before .next .given .1)), onward _ _ _ _ _ _ (c .before .before .before .before .before .loop .inv .0) (c .before .before .before .before .before .loop .inv .1) _ _ (told (command (c .before .before .before)) (c .before .next .given .1)))
+loop-again c = (
+  command-inside (c .before .before .before .before .before .before .before .before .before .args .text .now)
+      (c .before .before .before .before .before .before .before .before .before .args .tape .now) _ _ _ _
+      (c .before .before .before .before .before .loop .inv .0) (c .before .before .before .before .before .loop .inv .1) _ _
+      (told (command (c .before .before .before)) (c .before .next .given .1)),
+  onward _ _ _ _ _ _ (c .before .before .before .before .before .loop .inv .0) (c .before .before .before .before .before .loop .inv .1) _ _
+      (told (command (c .before .before .before)) (c .before .next .given .1)),
+)
 
 pub read-options-spec : {M : Type 1} → statement M
 read-options-spec =

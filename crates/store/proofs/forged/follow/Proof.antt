@@ -2,7 +2,7 @@ use borrow.Author.Needs.{needs}
 use Prim.Native.Nat.{_≤_, _-_}
 use native.Mathlib.Omega.{arith}
 use mathlib.Core.Path.{_≡_, refl, sym, _∙_}
-use lib.ListN.{take}
+use lib.ListN.{length, take}
 use mathlib.Core.List.{[]}
 use lib.Seq.{slice}
 use Rattle.definitions.specs.States.{imports}
@@ -41,7 +41,9 @@ returns : tie.Need-returns Inv-loop μ-loop
 returns c =
     let s = c .before .before .before .before .before .before .before in
     let i = c .before .before .before .before .before .before .loop .i in
-    sym (c .before .before .before .before .before .before .loop .inv .1 ∙ follows-not (s .args .settings) (s .args .t2) i (s .args .n) (omega arith) (omega (arith, s .good .1 .0 .1 .0 .1)) _ _ (c .before .before .number-in .ensures) (c .before .can-bind .ensures) (not-true _ (c .if1 .taken)))
+    let l : s .args .n ≤ length (s .args .t2) = omega (arith, s .good .1 .0 .1 .0 .1) in
+    let next = follows-not (s .args .settings) (s .args .t2) i (s .args .n) (omega arith) l _ _ (c .before .before .number-in .ensures) (c .before .can-bind .ensures) (not-true _ (c .if1 .taken)) in
+    sym (c .before .before .before .before .before .before .loop .inv .1 ∙ next)
 
 add-i : tie.Need-add-i Inv-loop μ-loop
 add-i c = search needs
@@ -53,7 +55,9 @@ loop-again : tie.Need-loop-again Inv-loop μ-loop
 loop-again c =
     let s = c .before .before .before .before .before .before .before in
     let i = c .before .before .before .before .before .before .loop .i in
-    (omega arith, c .before .before .before .before .before .before .loop .inv .1 ∙ follows-on (s .args .settings) (s .args .t2) i (s .args .n) (omega arith) (omega (arith, s .good .1 .0 .1 .0 .1)) _ _ (c .before .before .number-in .ensures) (c .before .can-bind .ensures) (not-false _ (c .if1 .left)))
+    let l : s .args .n ≤ length (s .args .t2) = omega (arith, s .good .1 .0 .1 .0 .1) in
+    let next = follows-on (s .args .settings) (s .args .t2) i (s .args .n) (omega arith) l _ _ (c .before .before .number-in .ensures) (c .before .can-bind .ensures) (not-false _ (c .if1 .left)) in
+    (omega arith, c .before .before .before .before .before .before .loop .inv .1 ∙ next)
 
 returns-2 : tie.Need-returns-2 Inv-loop μ-loop
 returns-2 c =

@@ -20,7 +20,9 @@ follow-requires : tie.Need-follow-requires
 follow-requires c κs = search needs
 
 returns-2 : tie.Need-returns-2
-returns-2 c = rw (c .before .before .spans-borne-out .ensures, c .before .forms-borne-out .ensures, c .follow .ensures) (sound-parts (now (c .before .before .before .before .before .before .before .before .args .text)) (c .before .before .before .before .before .before .before .before .args .state) (omega arith))
+returns-2 c =
+    let a = c .before .before .before .before .before .before .before .before .args in
+    rw (c .before .before .spans-borne-out .ensures, c .before .forms-borne-out .ensures, c .follow .ensures) (sound-parts (now (a .text)) (a .state) (omega arith))
 
 pub is-sound-spec : {M : Type 1} → statement M
 is-sound-spec =

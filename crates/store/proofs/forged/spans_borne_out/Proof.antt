@@ -19,7 +19,9 @@ borne-out-requires-5 : tie.Need-borne-out-requires-5
 borne-out-requires-5 c κs = search needs
 
 returns : tie.Need-returns
-returns c = rw (c .before .before .before .before .borne-out .ensures, c .before .before .before .borne-out2 .ensures, c .before .before .borne-out3 .ensures, c .before .borne-out4 .ensures, c .borne-out5 .ensures)
+returns c =
+    let last = c .borne-out5 .ensures in
+    rw (c .before .before .before .before .borne-out .ensures, c .before .before .before .borne-out2 .ensures, c .before .before .borne-out3 .ensures, c .before .borne-out4 .ensures, last)
 
 pub spans-borne-out-spec : {M : Type 1} → statement M
 spans-borne-out-spec =

@@ -2,7 +2,6 @@ use Prim.Native.Nat.{_-_}
 use native.Mathlib.Omega.{arith}
 use mathlib.Core.Path.{_≡_, sym, _∙_}
 use lib.ListN.{length, length-map}
-use mathlib.Core.Bool.{false}
 use borrow.Author.Needs.{needs}
 use Rattle.definitions.specs.Store.{numberIn}
 use Rattle.store.specs.Adding.{things}
@@ -14,7 +13,7 @@ eight : (c : tie.Start) → length (c .args .store .records) ≡ 8
 eight c = sym (length-map (c .args .store .records) _) ∙ c .good .0 .1 .1 .0 .1 .0 .1
 
 returns : tie.Need-returns
-returns c = sym (added-over (c .before .args .store) (c .before .args .import) (c .if1 .taken))
+returns c = let a = c .before .args in sym (added-over (a .store) (a .import) (c .if1 .taken))
 
 number-in-requires : tie.Need-number-in-requires
 number-in-requires c κs = search needs
@@ -24,9 +23,10 @@ cast-t9 c = search needs
 
 returns-2 : tie.Need-returns-2
 returns-2 c =
-    let s = c .before .before .before .before .args .store in
-    let n : c .before .number-in .result ≡ numberIn (things s) (c .before .before .before .before .args .import) = c .before .number-in .ensures in
-    (λ ι. record { store = s; number = n ι; full = false }) ∙ sym (added-found s (c .before .before .before .before .args .import) (omega arith) (eight (c .before .before .before .before)) (omega arith))
+    let s = c .before .before .before .before in
+    let store = s .args .store in
+    let n : c .before .number-in .result ≡ numberIn (things store) (s .args .import) = c .before .number-in .ensures in
+    rw n (sym (added-found store (s .args .import) (omega arith) (eight s) (omega arith)))
 
 cast-binding : tie.Need-cast-binding
 cast-binding c = search needs
@@ -41,10 +41,14 @@ add-t11 : tie.Need-add-t11
 add-t11 c = search needs
 
 returns-3 : tie.Need-returns-3
-returns-3 c = sym (added-made (c .before .before .before .before .before .args .store) (c .before .before .before .before .before .args .import) (omega arith) (eight (c .before .before .before .before .before)) (omega (arith, c .before .before .number-in .ensures)) (c .if3 .taken))
+returns-3 c =
+    let s = c .before .before .before .before .before in
+    sym (added-made (s .args .store) (s .args .import) (omega arith) (eight s) (omega (arith, c .before .before .number-in .ensures)) (c .if3 .taken))
 
 returns-4 : tie.Need-returns-4
-returns-4 c = sym (added-full (c .before .before .before .before .before .args .store) (c .before .before .before .before .before .args .import) (omega arith) (eight (c .before .before .before .before .before)) (omega (arith, c .before .before .number-in .ensures)) (c .if3 .left))
+returns-4 c =
+    let s = c .before .before .before .before .before in
+    sym (added-full (s .args .store) (s .args .import) (omega arith) (eight s) (omega (arith, c .before .before .number-in .ensures)) (c .if3 .left))
 
 pub add-import-spec : {M : Type 1} → statement M
 add-import-spec =

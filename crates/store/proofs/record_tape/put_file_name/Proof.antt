@@ -24,18 +24,24 @@ put-requires c κs = search needs
 
 returns : tie.Need-returns
 unfolding fileNameEntry
-returns c = rw (c .enum-told .given .1) (wrote-nothing (now (c .before .before .before .args .out)) (c .before .before .before .args .at) (c .before .before .before .pre))
+returns c =
+    let s = c .before .before .before in
+    rw (c .enum-told .given .1) (wrote-nothing (now (s .args .out)) (s .args .at) (s .pre))
 
 returns-2 : tie.Need-returns-2
 unfolding fileNameEntry
-returns-2 c = rw (c .enum-told2 .given .1) (wrote-nothing (now (c .before .before .before .args .out)) (c .before .before .before .args .at) (c .before .before .before .pre))
+returns-2 c =
+    let s = c .before .before .before in
+    rw (c .enum-told2 .given .1) (wrote-nothing (now (s .args .out)) (s .args .at) (s .pre))
 
 same-length : tie.Need-same-length
 same-length c = search needs
 
 returns-3 : tie.Need-returns-3
 unfolding fileNameEntry
-returns-3 c = rw (c .before .before .before .before .before .before .before .before .enum-told3 .given .1) (wrote-then (omega arith) (c .before .before .before .before .before .before .put-two .ensures) (c .before .before .put .ensures))
+returns-3 c =
+    rw (c .before .before .before .before .before .before .before .before .enum-told3 .given .1)
+    (wrote-then (omega arith) (c .before .before .before .before .before .before .put-two .ensures) (c .before .before .put .ensures))
 
 pub put-file-name-spec : {M : Type 1} → statement M
 put-file-name-spec =

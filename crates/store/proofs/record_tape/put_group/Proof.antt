@@ -17,7 +17,10 @@ same-length : tie.Need-same-length
 same-length c = search needs
 
 returns : tie.Need-returns
-returns c = rw (← part-group (c .before .before .before .before .before .before .before .before .before .args .source) (take (c .before .before .before .before .before .before .before .before .before .args .n) (c .before .before .before .before .before .before .before .before .before .args .records))) (wrote-then (omega arith) (c .before .before .before .before .before .before .put-two .ensures) (c .before .before .put-part .ensures))
+returns c =
+    let a = c .before .before .before .before .before .before .before .before .before .args in
+    rw (← part-group (a .source) (take (a .n) (a .records)))
+    (wrote-then (omega arith) (c .before .before .before .before .before .before .put-two .ensures) (c .before .before .put-part .ensures))
 
 pub put-group-spec : {M : Type 1} → statement M
 put-group-spec = tie.close (tie.spec put-two-requires put-part-requires same-length returns)

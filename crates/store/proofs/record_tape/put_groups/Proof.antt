@@ -29,7 +29,9 @@ put-group-requires-3 c κs = search needs
 
 returns : tie.Need-returns
 unfolding groupTape sourcesOf
-returns c = rw (c .enum-told .given .1) (wrote-nothing (now (c .before .before .before .args .out)) (c .before .before .before .args .at) (c .before .before .before .pre .1))
+returns c =
+    let s = c .before .before .before in
+    rw (c .enum-told .given .1) (wrote-nothing (now (s .args .out)) (s .args .at) (s .pre .1))
 
 same-length : tie.Need-same-length
 same-length c = search needs
@@ -43,7 +45,9 @@ same-length-2 c = search needs
 
 returns-3 : tie.Need-returns-3
 unfolding groupTape sourcesOf
-returns-3 c = rw (c .before .before .before .before .before .before .before .before .before .groups2 .given .1, append-nil) (wrote-then (omega arith) (c .before .before .before .before .before .before .put-group2 .ensures) (c .before .before .put-group3 .ensures))
+returns-3 c =
+    rw (c .before .before .before .before .before .before .before .before .before .groups2 .given .1, append-nil)
+    (wrote-then (omega arith) (c .before .before .before .before .before .before .put-group2 .ensures) (c .before .before .put-group3 .ensures))
 
 pub put-groups-spec : {M : Type 1} → statement M
 put-groups-spec =

@@ -22,7 +22,9 @@ same-length c = search needs
 
 returns : tie.Need-returns
 unfolding entryIn
-returns c = rw (c .before .before .before .before .before .before .before .before .before .before .import .given .1, eq-eqb _ _ (c .before .before .before .before .before .before .before .before .if1 .taken)) (wrote-then (omega arith) (c .before .before .before .before .before .before .put-two .ensures) (c .before .before .put .ensures))
+returns c =
+    rw (c .before .before .before .before .before .before .before .before .before .before .import .given .1, eq-eqb _ _ (c .before .before .before .before .before .before .before .before .if1 .taken))
+    (wrote-then (omega arith) (c .before .before .before .before .before .before .put-two .ensures) (c .before .before .put .ensures))
 
 enum-known-import-2 : tie.Need-enum-known-import-2
 enum-known-import-2 c = search needs
@@ -42,15 +44,21 @@ enum-told c = search needs
 
 returns-3 : tie.Need-returns-3
 unfolding entryIn
-returns-3 c = rw (c .before .before .import .given .1, ne-eqb _ _ (c .if1 .left)) (wrote-nothing (now (c .before .before .before .before .before .args .out)) (c .before .before .before .before .before .args .at) (c .before .before .before .before .before .pre))
+returns-3 c =
+    let s = c .before .before .before .before .before in
+    rw (c .before .before .import .given .1, ne-eqb _ _ (c .if1 .left)) (wrote-nothing (now (s .args .out)) (s .args .at) (s .pre))
 
 returns-4 : tie.Need-returns-4
 unfolding entryIn
-returns-4 c = rw (c .before .before .import2 .given .1, ne-eqb _ _ (c .if2 .left)) (wrote-nothing (now (c .before .before .before .before .before .args .out)) (c .before .before .before .before .before .args .at) (c .before .before .before .before .before .pre))
+returns-4 c =
+    let s = c .before .before .before .before .before in
+    rw (c .before .before .import2 .given .1, ne-eqb _ _ (c .if2 .left)) (wrote-nothing (now (s .args .out)) (s .args .at) (s .pre))
 
 returns-5 : tie.Need-returns-5
 unfolding entryIn
-returns-5 c = rw (c .enum-told .given .1) (wrote-nothing (now (c .before .before .before .args .out)) (c .before .before .before .args .at) (c .before .before .before .pre))
+returns-5 c =
+    let s = c .before .before .before in
+    rw (c .enum-told .given .1) (wrote-nothing (now (s .args .out)) (s .args .at) (s .pre))
 
 pub put-in-group-spec : {M : Type 1} → statement M
 put-in-group-spec =

@@ -22,7 +22,11 @@ same-length c = search needs
 
 returns : tie.Need-returns
 unfolding tapeOf
-returns c = rw (← c .before .before .before .before .place-in .ensures, ← part-file (c .before .before .before .before .place-in .result) (take (c .before .before .before .before .before .before .before .before .before .before .args .n) (c .before .before .before .before .before .before .before .before .before .before .args .records))) (wrote-then (omega arith) (c .before .before .before .before .before .before .before .put-groups .ensures) (c .before .before .put-part .ensures))
+returns c =
+    let a = c .before .before .before .before .before .before .before .before .before .before .args in
+    let place = c .before .before .before .before .place-in in
+    rw (← place .ensures, ← part-file (place .result) (take (a .n) (a .records)))
+    (wrote-then (omega arith) (c .before .before .before .before .before .before .before .put-groups .ensures) (c .before .before .put-part .ensures))
 
 pub put-tape-spec : {M : Type 1} → statement M
 put-tape-spec =

@@ -22,7 +22,8 @@ returns : tie.Need-returns
 returns c =
     let a = c .before .before .before .before .before .before .args in
     let rs = take (a .n) (a .records) in
-    let z = tape-size (a .mode) _ rs (c .before .before .before .before .groups-of .ensures) (omega (arith, length-take (a .n) (a .records))) (c .before .before .put-tape .ensures) in
+    let few : length rs ≤ 8 = omega (arith, length-take (a .n) (a .records)) in
+    let z = tape-size (a .mode) _ rs (c .before .before .before .before .groups-of .ensures) few (c .before .before .put-tape .ensures) in
     rw z (crowded (recordTape (a .mode) rs) (now (a .target)) (omega arith))
 
 put-tape-requires-2 : tie.Need-put-tape-requires-2
@@ -35,9 +36,11 @@ returns-2 : tie.Need-returns-2
 returns-2 c =
     let a = c .before .before .before .before .before .before .before .before .before .before .args in
     let rs = take (a .n) (a .records) in
-    let z = tape-size (a .mode) _ rs (c .before .before .before .before .before .before .before .before .groups-of .ensures) (omega (arith, length-take (a .n) (a .records))) (c .before .before .before .before .before .before .put-tape .ensures) in
+    let few : length rs ≤ 8 = omega (arith, length-take (a .n) (a .records)) in
+    let z = tape-size (a .mode) _ rs (c .before .before .before .before .before .before .before .before .groups-of .ensures) few (c .before .before .before .before .before .before .put-tape .ensures) in
     let l : length (recordTape (a .mode) rs) ≤ length (now (a .target)) = omega arith in
-    rw (z, tape-laid (a .mode) _ rs (c .before .before .before .before .before .before .before .before .groups-of .ensures) l (c .before .before .put-tape2 .ensures)) (roomy (recordTape (a .mode) rs) (now (a .target)) l)
+    let laid = tape-laid (a .mode) _ rs (c .before .before .before .before .before .before .before .before .groups-of .ensures) l (c .before .before .put-tape2 .ensures) in
+    rw (z, laid) (roomy (recordTape (a .mode) rs) (now (a .target)) l)
 
 pub write-tape-spec : {M : Type 1} → statement M
 write-tape-spec =

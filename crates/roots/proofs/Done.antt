@@ -1,0 +1,172 @@
+-- What a reading that is done says of its parts.
+--     map-done, from-done, then-done           readings put together
+--     named-is-done, .., opened-is-done        what was judged at a command
+--     properties-left-..                       the properties of a literal, one after the other
+-- Assumes nothing.
+use mathlib.Core.Path.{_≡_, refl, sym, ap, _∙_}
+use mathlib.Core.Bool.{Bool, true, false, cond, _||_}
+use mathlib.Core.List.{List, _∷_}
+use Prim.Native.Nat.{ℕ, zero, suc, _+_, _≤_, _<_}
+use native.Mathlib.Omega.{arith}
+use lib.ListN.{length, drop, length-drop}
+use lib.Seq.{drop-drop}
+use lib.Dec.{eqb, leb}
+use borrow.Author.Tests.{eq-eqb, leb-false}
+use Rattle.text.proofs.Lists.{tail-part}
+use Rattle.text.specs.declared.spans.Span.{Span}
+use Rattle.text.specs.declared.spans.Bounds.{Bounds}
+use Rattle.text.specs.declared.spans.Bounds.the-variants.{Outside, Cuts, Empty, Good}
+use Rattle.text.specs.Bytes.{find}
+use Rattle.text.specs.Spans.{partOf, boundsOf}
+use Rattle.tape.specs.declared.refusal.Fault.{Fault}
+use Rattle.tape.specs.declared.refusal.Fault.the-variants as fault
+use Rattle.commands.specs.declared.root.Place.{Place}
+use Rattle.commands.specs.declared.root.PropertyCommand.{PropertyCommand}
+use Rattle.commands.specs.declared.root.PropertyCommand.the-variants as properties
+use Rattle.commands.specs.Root.{propertyCommand}
+use Rattle.commands.specs.Sizes.{propertySize}
+use Rattle.commands.proofs.Lengths.{property-fits}
+use Rattle.definitions.specs.Judging.{Parsed, done, stop, _then_, map, from, spanned, named}
+use Rattle.definitions.specs.Tree.{Property, unnamed, propName}
+use Rattle.definitions.specs.Reading.{ampersand, lettered, opened, propertiesBy, propertiesAt}
+use Rattle.roots.specs.InOrder.{Placed}
+use Rattle.roots.proofs.Behind.{part}
+
+never : {A : Type 0} → _≡_ {A = ℕ} 0 1 → A
+never z = absurd (omega arith)
+
+-- ---- readings put together
+
+pub then-done : {A B : Type 0} (p : Parsed A) (k : A → ℕ → Parsed B) {b : B} {w : ℕ} → p then k ≡ done b w
+    → (a : A) × (u : ℕ) × (p ≡ done a u) × (k a u ≡ done b w)
+unfolding _then_
+then-done (done a u) k e = (a, u, refl, e)
+then-done (stop f q) k e = never cc
+
+pub map-done : {A B : Type 0} (g : A → B) (p : Parsed A) {b : B} {w : ℕ} → map g p ≡ done b w → (a : A) × (b ≡ g a) × (p ≡ done a w)
+unfolding map _then_
+map-done g (done a u) {b} {w} e = let z : u ≡ w = cc in (a, cc, ap (done a) z)
+map-done g (stop f q) e = never cc
+
+pub from-done : {A : Type 0} (n : ℕ) (p : Parsed A) {a : A} {w : ℕ} → from n p ≡ done a w → (v : ℕ) × (w ≡ n + v) × (p ≡ done a v)
+unfolding from
+from-done n (done b v) {a} {w} e = let z : b ≡ a = cc in (v, cc, ap (λ (x : _). done x v) z)
+from-done n (stop f q) e = never cc
+
+-- ---- what was judged at a command
+
+module _ {A : Type 0} {p : Parsed A} {a : A} {w : ℕ} where
+  pub named-is-done : (b : Bounds) → named b p ≡ done a w → (b ≡ Good) × (p ≡ done a w)
+  unfolding named
+  named-is-done Outside e = never cc
+  named-is-done Cuts e = never cc
+  named-is-done Empty e = never cc
+  named-is-done Good e = (refl, e)
+
+  pub spanned-is-done : (b : Bounds) → spanned b p ≡ done a w → p ≡ done a w
+  unfolding spanned
+  spanned-is-done Outside e = never cc
+  spanned-is-done Cuts e = never cc
+  spanned-is-done Empty e = e
+  spanned-is-done Good e = e
+
+  test-is-done : (b : Bool) (f : Fault) → cond b (stop f 0) p ≡ done a w → (b ≡ false) × (p ≡ done a w)
+  test-is-done true f e = never cc
+  test-is-done false f e = (refl, e)
+
+module _ {A : Type 0} {p : Parsed A} {a : A} {w : ℕ} where
+  pub lettered-is-done : (text : List ℕ) (s : Span) → lettered text s p ≡ done a w → p ≡ done a w
+  unfolding lettered
+  lettered-is-done text s e = test-is-done (ampersand (find (eqb 0x26) (partOf text s))) fault.Ampersand (spanned-is-done (boundsOf text s) e) .1
+
+-- an element or a fragment was opened below the 65th level, and its rest stands behind nine bytes
+pub opened-is-done : {A : Type 0} {a : A} {w : ℕ} (d : ℕ) (at : Place) (p : Parsed A) → opened d at p ≡ done a w
+    → (d < 64) × Placed at × ((v : ℕ) × (w ≡ 9 + v) × (p ≡ done a v))
+unfolding opened
+opened-is-done d at p e =
+    let x = test-is-done (leb 64 d) fault.Depth e in
+    let y = test-is-done (eqb (at .line) 4294967295 || eqb (at .column) 4294967295) fault.Position (x .1) in (
+      omega (arith, leb-false 64 d (x .0)),
+      placed (eqb (at .line) 4294967295) (eqb (at .column) 4294967295) refl refl (y .0),
+      from-done 9 p (y .1),
+    )
+  where
+    placed : (b c : Bool) → eqb (at .line) 4294967295 ≡ b → eqb (at .column) 4294967295 ≡ c → (b || c) ≡ false → Placed at
+    placed true c h i q = never cc
+    placed false true h i q = never cc
+    placed false false h i q =
+        record { line = λ k. let z : true ≡ false = sym (eq-eqb _ _ k) ∙ h in never cc; column = λ k. let z : true ≡ false = sym (eq-eqb _ _ k) ∙ i in never cc }
+
+-- ---- the properties of a literal, one after the other
+
+-- i bytes of them are passed: what is left reads, up to the place u
+pub record PropertiesLeft (text tape : List ℕ) (i u : ℕ) : Type 0 where
+  pub turns : ℕ
+  pub rest : List Property
+  pub size : ℕ
+  pub enough : length tape < i + turns
+  pub reads : propertiesAt turns text (drop i tape) ≡ done rest size
+  pub ends : u ≡ i + size
+
+pub properties-left-none : (f : ℕ) (text tape : List ℕ) (ps : List Property) (u : ℕ) → length tape < f → propertiesAt f text tape ≡ done ps u
+    → PropertiesLeft text tape 0 u
+properties-left-none f text tape ps u h e = record { turns = f; rest = ps; size = u; enough = omega arith; reads = e; ends = omega arith }
+
+module _ {text tape : List ℕ} {i u : ℕ} (inside : i ≤ length tape) (P : PropertiesLeft text tape i u) where
+  -- by the command that stands there
+  left-by : (c : PropertyCommand) → propertyCommand (part i tape) ≡ c
+      → (g : ℕ) × (length tape < i + suc g)
+      × (propertiesBy text (drop i tape) c (λ v. from v (propertiesAt g text (drop v (drop i tape)))) ≡ done (P .rest) (P .size))
+  unfolding propertiesAt
+  left-by c e = go (P .turns) (P .enough) (P .reads)
+    where
+      go : (g : ℕ) → length tape < i + g → propertiesAt g text (drop i tape) ≡ done (P .rest) (P .size)
+          → (g : ℕ) × (length tape < i + suc g)
+          × (propertiesBy text (drop i tape) c (λ v. from v (propertiesAt g text (drop v (drop i tape)))) ≡ done (P .rest) (P .size))
+      go zero h k = absurd (omega arith)
+      go (suc g) h k = (g, h, rw (← e, tail-part tape i) k)
+
+  -- one more, of n bytes
+  left-on : (n g : ℕ) (x : Property) → 1 ≤ n → length tape < i + suc g
+      → map (x ∷_) (from n (propertiesAt g text (drop n (drop i tape)))) ≡ done (P .rest) (P .size) → PropertiesLeft text tape (i + n) u
+  left-on n g x o h e =
+      let m = map-done (x ∷_) (from n (propertiesAt g text (drop n (drop i tape)))) e in
+      let k = from-done n (propertiesAt g text (drop n (drop i tape))) (m .2) in
+      record {
+        turns = g;
+        rest = m .0;
+        size = k .0;
+        enough = omega arith;
+        reads = ap (λ (l : List ℕ). propertiesAt g text l) (sym (drop-drop n i tape)) ∙ k .2;
+        ends = omega (arith, k .1, P .ends);
+      }
+
+  pub properties-left-property : (x : ℕ) → propertyCommand (part i tape) ≡ properties.Property x → PropertiesLeft text tape (i + 3) u
+  unfolding propertiesBy
+  properties-left-property x e = let y = left-by _ e in left-on 3 (y .0) (unnamed x) (omega arith) (y .1) (y .2)
+
+  pub properties-left-named : (x : ℕ) (s : Span) → propertyCommand (part i tape) ≡ properties.Named x s → PropertiesLeft text tape (i + 7) u
+  unfolding propertiesBy
+  properties-left-named x s e =
+      let y = left-by _ e in left-on 7 (y .0) (propName x s) (omega arith) (y .1) (spanned-is-done (boundsOf text s) (y .2))
+
+  pub properties-left-end : propertyCommand (part i tape) ≡ properties.End → i + 1 ≡ u
+  unfolding propertiesBy
+  properties-left-end e =
+      let y = left-by _ e .2 in
+      let z : 1 ≡ P .size = cc in
+      omega (arith, P .ends)
+
+  pub properties-left-wrong : propertyCommand (part i tape) ≡ properties.Wrong → ⊥
+  unfolding propertiesBy
+  properties-left-wrong e = let y = left-by _ e .2 in never cc
+
+  pub properties-left-cut : propertyCommand (part i tape) ≡ properties.Cut → ⊥
+  unfolding propertiesBy
+  properties-left-cut e = let y = left-by _ e .2 in never cc
+
+-- how much of the tape is left for what stands there
+pub property-room : (tape : List ℕ) (i : ℕ) {c : PropertyCommand} → i ≤ length tape → propertyCommand (part i tape) ≡ c → i + propertySize c ≤ length tape
+property-room tape i h e =
+    let x : propertyCommand (drop i tape) ≡ _ = rw (tail-part tape i) at e in
+    omega (arith, property-fits (drop i tape) x, length-drop i tape)
