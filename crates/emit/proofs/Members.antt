@@ -14,6 +14,7 @@ use Rattle.text.specs.Spans.{boundsOf}
 use Rattle.commands.specs.declared.root.MemberCommand.{MemberCommand}
 use Rattle.commands.specs.declared.root.MemberCommand.the-variants as command
 use Rattle.commands.specs.Root.{memberCommand}
+use Rattle.commands.specs.Sizes.{memberSize}
 use Rattle.commands.proofs.Lengths.{member-fits}
 use Rattle.definitions.specs.Judging.{Parsed, done, map, from}
 use Rattle.definitions.specs.Reading.{membersBy, membersAt}
@@ -89,6 +90,6 @@ module _ {text t : List ℕ} {ms : List Span} {i : ℕ} {cs cs₁ : List ℕ} {p
   unfolding membersBy
   members-cut q = stopped (at q .reads)
 
--- a property that was read is within the tape
-pub member-within : (t : List ℕ) (i : ℕ) (s : Span) → i ≤ length t → memberCommand (drop i t) ≡ command.Member s → i + 5 ≤ length t
-member-within t i s h q = omega (arith, member-fits (drop i t) q, length-drop i t)
+-- a command that was read is within the tape
+pub member-within : (t : List ℕ) (i : ℕ) (c : MemberCommand) → i ≤ length t → memberCommand (drop i t) ≡ c → i + memberSize c ≤ length t
+member-within t i c h q = omega (arith, member-fits (drop i t) q, length-drop i t)

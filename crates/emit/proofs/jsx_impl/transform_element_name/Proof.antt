@@ -1,6 +1,6 @@
+use mathlib.Core.Path.{_≡_, refl}
 use Prim.Native.Nat.{_≤_, _-_, _^_}
 use native.Mathlib.Omega.{arith}
-use mathlib.Core.Path.{refl}
 use lib.ListN.{length}
 use borrow.Author.Needs.{needs}
 use Rattle.text.proofs.Lists.{told}
@@ -12,8 +12,17 @@ use Rattle.definitions.specs.Lowering.{lowerName}
 use Rattle.emit.proofs.Readings.{in-part, part-short}
 use Rattle.emit.proofs.Names.{name-plain, name-identifier, name-this, name-namespaced, name-wrong, name-cut}
 use Rattle.emit.proofs.Emitting.{called-then, called-produced, noticed-produced, produced-then}
+use Rattle.commands.specs.declared.root.NameCommand.{NameCommand}
+use Rattle.commands.specs.Root.{nameCommand}
 use Rattle.emit.proofs.jsx_impl.transform_element_name.Statement.{statement}
 use Rattle.emit.proofs.jsx_impl.transform_element_name.Tie as tie
+
+short : (c : tie.Start) → (length (c .args .calls .now) ≤ 2 ^ 63) × (length (c .args .notices .now) ≤ 2 ^ 63)
+short c = (omega arith, omega arith)
+
+-- what the reader saw
+there : (c : tie.After-name-command-at) {k : NameCommand} → c .name-command-at .result ≡ k → nameCommand (c .before .before .before .before .args .tape .now) ≡ k
+there c q = told (c .name-command-at .ensures) q
 
 name-command-at-requires : tie.Need-name-command-at-requires
 name-command-at-requires c κs = search needs
@@ -31,10 +40,10 @@ put-spanned-requires : tie.Need-put-spanned-requires
 put-spanned-requires c κs = search needs
 
 sub-transform-jsx-member-expression : tie.Need-sub-transform-jsx-member-expression
-sub-transform-jsx-member-expression c = omega (arith, name-fits ((c .before .before .before .before .before .before .before .before .before .before .before .args) .tape .now) (told ((c .before .before .before .before .before .before .before .name-command-at) .ensures) ((c .before .before .before .before .before .command2) .given .1)))
+sub-transform-jsx-member-expression c = omega (arith, name-fits ((c .before .before .before .before .before .before .before .before .before .before .before .args) .tape .now) (there (c .before .before .before .before .before .before .before) ((c .before .before .before .before .before .command2) .given .1)))
 
 part-transform-jsx-member-expression-start : tie.Need-part-transform-jsx-member-expression-start
-part-transform-jsx-member-expression-start c = omega (arith, name-fits ((c .before .before .before .before .before .before .before .before .before .before .before .args) .tape .now) (told ((c .before .before .before .before .before .before .before .name-command-at) .ensures) ((c .before .before .before .before .before .command2) .given .1)))
+part-transform-jsx-member-expression-start c = omega (arith, name-fits ((c .before .before .before .before .before .before .before .before .before .before .before .args) .tape .now) (there (c .before .before .before .before .before .before .before) ((c .before .before .before .before .before .command2) .given .1)))
 
 part-transform-jsx-member-expression-end : tie.Need-part-transform-jsx-member-expression-end
 part-transform-jsx-member-expression-end c = search needs
@@ -49,11 +58,11 @@ put-bare-requires : tie.Need-put-bare-requires
 put-bare-requires c κs = search needs
 
 sub-transform-jsx-member-expression-2 : tie.Need-sub-transform-jsx-member-expression-2
-sub-transform-jsx-member-expression-2 c = omega (arith, name-fits ((c .before .before .before .before .before .before .before .before .before .before .args) .tape .now) (told ((c .before .before .before .before .before .before .name-command-at) .ensures) ((c .before .before .before .before .enum-told) .given .1)))
+sub-transform-jsx-member-expression-2 c = omega (arith, name-fits ((c .before .before .before .before .before .before .before .before .before .before .args) .tape .now) (there (c .before .before .before .before .before .before) ((c .before .before .before .before .enum-told) .given .1)))
 
 part-transform-jsx-member-expression-start-2 :
     tie.Need-part-transform-jsx-member-expression-start-2
-part-transform-jsx-member-expression-start-2 c = omega (arith, name-fits ((c .before .before .before .before .before .before .before .before .before .before .args) .tape .now) (told ((c .before .before .before .before .before .before .name-command-at) .ensures) ((c .before .before .before .before .enum-told) .given .1)))
+part-transform-jsx-member-expression-start-2 c = omega (arith, name-fits ((c .before .before .before .before .before .before .before .before .before .before .args) .tape .now) (there (c .before .before .before .before .before .before) ((c .before .before .before .before .enum-told) .given .1)))
 
 part-transform-jsx-member-expression-end-2 : tie.Need-part-transform-jsx-member-expression-end-2
 part-transform-jsx-member-expression-end-2 c = search needs
@@ -79,10 +88,8 @@ same-length-2 c = search needs
 returns : tie.Need-returns
 unfolding lowerName
 returns c = λ k e text f n u h r.
-    let short : length ((c .before .before .before .before .before .before .before .before .before .before .before .before .before .before .before .before .args) .calls .now) ≤ 2 ^ 63 = omega (arith, (c .before .before .before .before .before .before .before .before .before .before .before .before .before .before .before .before)) in
-    let short′ : length ((c .before .before .before .before .before .before .before .before .before .before .before .before .before .before .before .before .args) .notices .now) ≤ 2 ^ 63 = omega (arith, (c .before .before .before .before .before .before .before .before .before .before .before .before .before .before .before .before)) in
-    rw (← name-namespaced f text ((c .before .before .before .before .before .before .before .before .before .before .before .before .before .before .before .before .args) .tape .now) n u r ((c .before .before .before .before .before .before .before .before .before .before .command3) .given .0 .0) ((c .before .before .before .before .before .before .before .before .before .before .command3) .given .0 .1 .0) (told ((c .before .before .before .before .before .before .before .before .before .before .before .before .name-command-at) .ensures) ((c .before .before .before .before .before .before .before .before .before .before .command3) .given .1)), e, (c .before .before .before .before .before .before .before .before .if1) .taken)
-    (produced-then short short′ (noticed-produced ((c .before .before .before .before .before .before .namespace-does-not-support) .ensures)) (called-produced ((c .before .before .put-namespaced) .ensures)))
+    rw (← name-namespaced f text ((c .before .before .before .before .before .before .before .before .before .before .before .before .before .before .before .before .args) .tape .now) n u r ((c .before .before .before .before .before .before .before .before .before .before .command3) .given .0 .0) ((c .before .before .before .before .before .before .before .before .before .before .command3) .given .0 .1 .0) (there (c .before .before .before .before .before .before .before .before .before .before .before .before) ((c .before .before .before .before .before .before .before .before .before .before .command3) .given .1)), e, (c .before .before .before .before .before .before .before .before .if1) .taken)
+    (produced-then (short (c .before .before .before .before .before .before .before .before .before .before .before .before .before .before .before .before) .0) (short (c .before .before .before .before .before .before .before .before .before .before .before .before .before .before .before .before) .1) (noticed-produced ((c .before .before .before .before .before .before .namespace-does-not-support) .ensures)) (called-produced ((c .before .before .put-namespaced) .ensures)))
 
 put-namespaced-requires-2 : tie.Need-put-namespaced-requires-2
 put-namespaced-requires-2 c κs = search needs
@@ -99,7 +106,7 @@ same-length-3 c = search needs
 returns-2 : tie.Need-returns-2
 unfolding lowerName
 returns-2 c = λ k e text f n u h r.
-    rw (← name-plain f text ((c .before .before .before .before .before .before .before .before .before .before .before .args) .tape .now) n u r ((c .before .before .before .before .before .command) .given .0 .0) (told ((c .before .before .before .before .before .before .before .name-command-at) .ensures) ((c .before .before .before .before .before .command) .given .1))) (called-produced ((c .before .before .put-string) .ensures))
+    rw (← name-plain f text ((c .before .before .before .before .before .before .before .before .before .before .before .args) .tape .now) n u r ((c .before .before .before .before .before .command) .given .0 .0) (there (c .before .before .before .before .before .before .before) ((c .before .before .before .before .before .command) .given .1))) (called-produced ((c .before .before .put-string) .ensures))
 
 same-length-4 : tie.Need-same-length-4
 same-length-4 c = search needs
@@ -107,11 +114,10 @@ same-length-4 c = search needs
 returns-3 : tie.Need-returns-3
 unfolding lowerName spanCode
 returns-3 c = λ k e text f n u h r.
-    let short : length ((c .before .before .before .before .before .before .before .before .before .before .before .before .before .before .before .before .args) .calls .now) ≤ 2 ^ 63 = omega (arith, (c .before .before .before .before .before .before .before .before .before .before .before .before .before .before .before .before)) in
-    let m = name-identifier f text ((c .before .before .before .before .before .before .before .before .before .before .before .before .before .before .before .before .args) .tape .now) n u r ((c .before .before .before .before .before .before .before .before .before .before .command2) .given .0 .0) (told ((c .before .before .before .before .before .before .before .before .before .before .before .before .name-command-at) .ensures) ((c .before .before .before .before .before .before .before .before .before .before .command2) .given .1)) in
+    let m = name-identifier f text ((c .before .before .before .before .before .before .before .before .before .before .before .before .before .before .before .before .args) .tape .now) n u r ((c .before .before .before .before .before .before .before .before .before .before .command2) .given .0 .0) (there (c .before .before .before .before .before .before .before .before .before .before .before .before) ((c .before .before .before .before .before .before .before .before .before .before .command2) .given .1)) in
     rw (← m .is)
     (called-produced
-    (called-then short ((c .before .before .before .before .before .before .before .put-spanned) .ensures call.identifier refl)
+    (called-then (short (c .before .before .before .before .before .before .before .before .before .before .before .before .before .before .before .before) .0) ((c .before .before .before .before .before .before .before .put-spanned) .ensures call.identifier refl)
     ((c .before .before .transform-jsx-member-expression) .ensures text f (m .members) (m .size) (part-short ((c .before .before .before .before .before .before .before .before .before .before .before .before .before .before .before .before .args) .tape .now) 5 f h) (in-part (membersAt f text) ((c .before .before .before .before .before .before .before .before .before .before .before .before .before .before .before .before .args) .tape .now) 5 (m .reads)))))
 
 same-length-5 : tie.Need-same-length-5
@@ -120,11 +126,10 @@ same-length-5 c = search needs
 returns-4 : tie.Need-returns-4
 unfolding lowerName bareCode
 returns-4 c = λ k e text f n u h r.
-    let short : length ((c .before .before .before .before .before .before .before .before .before .before .before .before .before .before .before .args) .calls .now) ≤ 2 ^ 63 = omega (arith, (c .before .before .before .before .before .before .before .before .before .before .before .before .before .before .before)) in
-    let m = name-this f text ((c .before .before .before .before .before .before .before .before .before .before .before .before .before .before .before .args) .tape .now) n u r (told ((c .before .before .before .before .before .before .before .before .before .before .before .name-command-at) .ensures) ((c .before .before .before .before .before .before .before .before .before .enum-told) .given .1)) in
+    let m = name-this f text ((c .before .before .before .before .before .before .before .before .before .before .before .before .before .before .before .args) .tape .now) n u r (there (c .before .before .before .before .before .before .before .before .before .before .before) ((c .before .before .before .before .before .before .before .before .before .enum-told) .given .1)) in
     rw (← m .is)
     (called-produced
-    (called-then short ((c .before .before .before .before .before .before .before .put-bare) .ensures call.this refl)
+    (called-then (short (c .before .before .before .before .before .before .before .before .before .before .before .before .before .before .before) .0) ((c .before .before .before .before .before .before .before .put-bare) .ensures call.this refl)
     ((c .before .before .transform-jsx-member-expression2) .ensures text f (m .members) (m .size) (part-short ((c .before .before .before .before .before .before .before .before .before .before .before .before .before .before .before .args) .tape .now) 1 f h) (in-part (membersAt f text) ((c .before .before .before .before .before .before .before .before .before .before .before .before .before .before .before .args) .tape .now) 1 (m .reads)))))
 
 same-length-6 : tie.Need-same-length-6
@@ -133,13 +138,13 @@ same-length-6 c = search needs
 returns-5 : tie.Need-returns-5
 unfolding lowerName
 returns-5 c = λ k e text f n u h r.
-    rw (← name-namespaced f text ((c .before .before .before .before .before .before .before .before .before .before .before .before .args) .tape .now) n u r ((c .before .before .before .before .before .before .command3) .given .0 .0) ((c .before .before .before .before .before .before .command3) .given .0 .1 .0) (told ((c .before .before .before .before .before .before .before .before .name-command-at) .ensures) ((c .before .before .before .before .before .before .command3) .given .1)), e, (c .before .before .before .before .if1) .left) (called-produced ((c .before .before .put-namespaced2) .ensures))
+    rw (← name-namespaced f text ((c .before .before .before .before .before .before .before .before .before .before .before .before .args) .tape .now) n u r ((c .before .before .before .before .before .before .command3) .given .0 .0) ((c .before .before .before .before .before .before .command3) .given .0 .1 .0) (there (c .before .before .before .before .before .before .before .before) ((c .before .before .before .before .before .before .command3) .given .1)), e, (c .before .before .before .before .if1) .left) (called-produced ((c .before .before .put-namespaced2) .ensures))
 
 returns-6 : tie.Need-returns-6
-returns-6 c = λ k e text f n u h r. name-wrong f text ((c .before .before .before .before .before .before .args) .tape .now) n u r (told ((c .before .before .name-command-at) .ensures) ((c .enum-told2) .given .1))
+returns-6 c = λ k e text f n u h r. name-wrong f text ((c .before .before .before .before .before .before .args) .tape .now) n u r (there (c .before .before) ((c .enum-told2) .given .1))
 
 returns-7 : tie.Need-returns-7
-returns-7 c = λ k e text f n u h r. name-cut f text ((c .before .before .before .before .before .before .args) .tape .now) n u r (told ((c .before .before .name-command-at) .ensures) ((c .enum-told3) .given .1))
+returns-7 c = λ k e text f n u h r. name-cut f text ((c .before .before .before .before .before .before .args) .tape .now) n u r (there (c .before .before) ((c .enum-told3) .given .1))
 
 pub transform-element-name-spec : {M : Type 1} → statement M
 transform-element-name-spec =

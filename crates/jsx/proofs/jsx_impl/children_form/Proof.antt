@@ -1,0 +1,28 @@
+use mathlib.Core.Bool.{Bool, true, false, cond, not, _||_, _&&_}
+use mathlib.Core.List.{List, []}
+use Rattle.text.proofs.Lists.{told, tail-part}
+use borrow.Author.Tests.{eq-eqb, ne-eqb}
+use borrow.Author.Needs.{needs}
+use Prim.Native.Nat.{ℕ, suc, _≤_, _<_, _+_, _-_}
+use native.Mathlib.Omega.{arith}
+use mathlib.Core.Path.{_≡_, refl, sym, ap, subst, _∙_}
+use lib.ListN.{length, getD, take, drop}
+use Rattle.jsx.proofs.jsx_impl.children_form.Statement.{statement}
+use Rattle.jsx.proofs.jsx_impl.children_form.Tie as tie
+use Rattle.jsx.proofs.jsx_impl.children_form.Reads as reads
+use Rattle.jsx.proofs.jsx_impl.children_form.Lts as lts
+
+-- src/jsx_impl.rt:206:9
+returns : tie.Need-returns
+returns c = rw (ne-eqb _ _ ((c .if1) .taken)) refl
+
+-- src/jsx_impl.rt:202:1
+returns-2 : tie.Need-returns-2
+returns-2 c = rw (eq-eqb _ _ ((c .before .if1) .left), (c .if2) .taken) refl
+
+-- src/jsx_impl.rt:202:1
+returns-3 : tie.Need-returns-3
+returns-3 c = rw (eq-eqb _ _ ((c .before .if1) .left), (c .if2) .left) refl
+
+pub children-form-spec : {M : Type 1} → statement M
+children-form-spec = tie.close (tie.spec returns returns-2 returns-3)

@@ -1,0 +1,36 @@
+use mathlib.Core.Bool.{Bool, true, false, cond, not, _||_, _&&_}
+use mathlib.Core.List.{List, []}
+use Rattle.text.proofs.Lists.{told, tail-part}
+use Rattle.definitions.specs.declared.options.Settings.{Settings}
+use Rattle.definitions.specs.Lowering.{isClassic, keyAfterSpread}
+use Prim.Native.Nat.{ℕ, suc, _≤_, _<_, _+_, _-_}
+use native.Mathlib.Omega.{arith}
+use mathlib.Core.Path.{_≡_, refl, sym, ap, subst, _∙_}
+use lib.ListN.{length, getD, take, drop}
+use borrow.Author.Needs.{needs}
+use Rattle.jsx.proofs.jsx_impl.is_classic_element.Statement.{statement}
+use Rattle.jsx.proofs.jsx_impl.is_classic_element.Tie as tie
+use Rattle.jsx.proofs.jsx_impl.is_classic_element.Reads as reads
+use Rattle.jsx.proofs.jsx_impl.is_classic_element.Lts as lts
+use Rattle.jsx.proofs.jsx_impl.has_key_after_props_spread.Reads as has-key-after-props-spread-reads
+use Rattle.jsx.proofs.jsx_impl.is_classic.Reads as is-classic-reads
+
+-- src/jsx_impl.rt:320:8
+is-classic-requires : tie.Need-is-classic-requires
+is-classic-requires c κs = search needs
+
+-- src/jsx_impl.rt:321:9
+returns : tie.Need-returns
+returns c = λ k e s f d a u h i. sym (ap (λ (b : Bool). b || keyAfterSpread k false a) (ap (λ (x : Settings). isClassic (x .mode)) s ∙ told ((c .before .is-classic) .ensures) ((c .if1) .taken)))
+
+-- src/jsx_impl.rt:323:5
+has-key-after-props-spread-requires : tie.Need-has-key-after-props-spread-requires
+has-key-after-props-spread-requires c κs = search needs
+
+-- src/jsx_impl.rt:315:1
+returns-2 : tie.Need-returns-2
+returns-2 c = λ k e s f d a u h i. (c .has-key-after-props-spread) .ensures k e f d a u h i ∙ sym (ap (λ (b : Bool). b || keyAfterSpread k false a) (ap (λ (x : Settings). isClassic (x .mode)) s ∙ told ((c .before .before .is-classic) .ensures) ((c .before .if1) .left)))
+
+pub is-classic-element-spec : {M : Type 1} → statement M
+is-classic-element-spec =
+    tie.close (tie.spec is-classic-requires returns has-key-after-props-spread-requires returns-2)

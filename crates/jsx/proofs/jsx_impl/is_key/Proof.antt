@@ -1,0 +1,34 @@
+use mathlib.Core.Bool.{Bool, true, false, cond, not, _||_, _&&_}
+use mathlib.Core.List.{List, []}
+use Rattle.text.proofs.Lists.{told, tail-part}
+use Rattle.text.specs.Bytes.{same}
+use Prim.Native.Nat.{ℕ, suc, _≤_, _<_, _+_, _-_}
+use native.Mathlib.Omega.{arith}
+use mathlib.Core.Path.{_≡_, refl, sym, ap, subst, _∙_}
+use lib.ListN.{length, getD, take, drop}
+use borrow.Author.Needs.{needs}
+use Rattle.jsx.proofs.jsx_impl.is_key.Statement.{statement}
+use Rattle.jsx.proofs.jsx_impl.is_key.Tie as tie
+use Rattle.jsx.proofs.jsx_impl.is_key.Reads as reads
+use Rattle.jsx.proofs.jsx_impl.is_key.Lts as lts
+use Rattle.text.proofs.bytes.same.Reads as same-reads
+use Rattle.text.proofs.spans.part.Reads as part-reads
+
+-- src/jsx_impl.rt:99:10
+part-requires : tie.Need-part-requires
+part-requires c κs = search needs
+
+-- src/jsx_impl.rt:99:28
+slice-aggregate-same : tie.Need-slice-aggregate-same
+slice-aggregate-same c = search needs
+
+-- src/jsx_impl.rt:99:5
+same-requires : tie.Need-same-requires
+same-requires c κs = search needs
+
+-- src/jsx_impl.rt:96:1
+returns : tie.Need-returns
+returns c = λ k e. rw (e, ← (c .before .before .part) .ensures) ((c .same) .ensures)
+
+pub is-key-spec : {M : Type 1} → statement M
+is-key-spec = tie.close (tie.spec part-requires slice-aggregate-same same-requires returns)

@@ -1,0 +1,28 @@
+use mathlib.Core.Bool.{Bool, true, false, cond, not, _||_, _&&_}
+use mathlib.Core.List.{List, []}
+use Rattle.text.proofs.Lists.{told, tail-part}
+use borrow.Author.Tests.{eq-eqb, ne-eqb}
+use Prim.Native.Nat.{ℕ, suc, _≤_, _<_, _+_, _-_}
+use native.Mathlib.Omega.{arith}
+use mathlib.Core.Path.{_≡_, refl, sym, ap, subst, _∙_}
+use lib.ListN.{length, getD, take, drop}
+use borrow.Author.Needs.{needs}
+use Rattle.jsx.proofs.jsx_impl.newer.Statement.{statement}
+use Rattle.jsx.proofs.jsx_impl.newer.Tie as tie
+use Rattle.jsx.proofs.jsx_impl.newer.Reads as reads
+use Rattle.jsx.proofs.jsx_impl.newer.Lts as lts
+
+-- src/jsx_impl.rt:196:9
+returns : tie.Need-returns
+returns c = rw (eq-eqb _ _ ((c .if1) .taken)) refl
+
+-- src/jsx_impl.rt:198:5
+add-result : tie.Need-add-result
+add-result c = search needs
+
+-- src/jsx_impl.rt:191:1
+returns-2 : tie.Need-returns-2
+returns-2 c = rw (ne-eqb _ _ ((c .if1) .left)) refl
+
+pub newer-spec : {M : Type 1} → statement M
+newer-spec = tie.close (tie.spec returns add-result returns-2)
