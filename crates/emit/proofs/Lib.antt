@@ -7,3 +7,4 @@ pub mod Members
 pub mod Names
 pub mod Properties
 pub mod RootHeads
+pub mod Measuring
