@@ -1,8 +1,8 @@
 -- What stands at the front of a tape that reads: values, names, attributes, by their commands.
 -- Assumes nothing.
 use mathlib.Core.Path.{_≡_, refl, sym, ap, subst, _∙_}
-use mathlib.Core.Bool.{Bool, true, false, cond, not, _||_, _&&_}
-use mathlib.Core.List.{List, [], _∷_, _++_}
+use mathlib.Core.Bool.{Bool, true, false, cond, _||_, _&&_}
+use mathlib.Core.List.{List, [], _∷_}
 use Prim.Native.Nat.{ℕ, zero, suc, _+_, _-_, _≤_, _<_}
 use native.Mathlib.Omega.{arith}
 use lib.ListN.{length, take, drop, length-drop}
@@ -18,15 +18,15 @@ use Rattle.commands.specs.declared.root.AttributeCommand.the-variants as attrib
 use Rattle.commands.specs.declared.root.PropertyCommand.the-variants as properties
 use Rattle.commands.specs.declared.root.ValueCommand.the-variants as values
 use Rattle.commands.specs.Root.{nameCommand, memberCommand, attributeCommand, propertyCommand, valueCommand}
-use Rattle.definitions.specs.Judging.{Parsed, done, map, from, worse}
-use Rattle.definitions.specs.Tree.{Name, plain, identifier, this, namespaced, Property, unnamed, propName, Attributes, noAttributes, attribute, namespacedAttribute, spread, literal, Value, absent, string, expression, empty, nodeValue}
+use Rattle.definitions.specs.Judging.{Parsed, done, from, worse}
+use Rattle.definitions.specs.Tree.{Name, plain, identifier, this, namespaced, Property, unnamed, propName, Attributes, attribute, spread, literal, Value}
 use Rattle.definitions.specs.Reading.{membersBy, nameBy, propertiesBy, membersAt, nameAt, propertiesAt, attributesAt, valueAt}
 use Rattle.definitions.specs.Calls as call
-use Rattle.definitions.specs.Lowering.{Context, Output, putOver, hasValue, isKey, keyAfterSpread, isProto, hasProto, carried, lowerLiteral}
+use Rattle.definitions.specs.Lowering.{Context, putOver, hasValue, isKey, keyAfterSpread, hasProto, carried, lowerLiteral}
 use Rattle.jsx.specs.declared.jsx_impl.Front.{Front}
 use Rattle.jsx.specs.declared.jsx_impl.Front.the-variants as front
 use Rattle.jsx.specs.Parts.{someOutput, Onward, FrontIs}
-use Rattle.jsx.proofs.Inversions.{never, from-done, named-done, spanned-done, map-done, Behind, Within, attributesRead, valueRead, propertiesRead, attributes-end, attributes-wrong, attributes-cut, attributes-plain, attributes-namespaced, attributes-spread, attributes-literal, value-absent, value-empty, value-expression, value-text, value-wrong, value-cut, value-element, value-fragment}
+use Rattle.jsx.proofs.Inversions.{never, from-done, named-done, spanned-done, map-done, Within, attributes-end, attributes-plain, attributes-namespaced, attributes-spread, attributes-literal, value-absent, value-empty, value-expression, value-text, value-element, value-fragment}
 
 -- ---- whether a value is there
 

@@ -1,18 +1,14 @@
 -- What a reading that succeeded is made of: by the command at the front, the tree's shape, the readings of its parts and what they took.
 -- `turns`: the parts are read with one turn less.
 -- Assumes nothing.
-use mathlib.Core.Path.{_≡_, refl, sym, ap, subst, _∙_}
+use mathlib.Core.Path.{_≡_, refl, sym, ap, _∙_}
 use mathlib.Core.Bool.{Bool, true, false, cond, _||_}
-use mathlib.Core.List.{List, [], _∷_}
-use Prim.Native.Nat.{ℕ, zero, suc, _+_, _≤_, _<_}
+use mathlib.Core.List.{List}
+use Prim.Native.Nat.{ℕ, zero, suc, _+_}
 use native.Mathlib.Omega.{arith}
-use native.Mathlib.Nat.{add-assoc}
-use lib.ListN.{length, drop}
-use lib.Seq.{drop-drop}
+use lib.ListN.{drop}
 use lib.Dec.{eqb, leb}
-use borrow.Author.Tests.{eqb-false, eq-eqb}
-use Rattle.text.specs.declared.bytes.Found.{Found}
-use Rattle.text.specs.declared.bytes.Found.the-variants as found
+use borrow.Author.Tests.{eq-eqb}
 use Rattle.text.specs.declared.spans.Span.{Span}
 use Rattle.text.specs.declared.spans.Bounds.{Bounds}
 use Rattle.text.specs.declared.spans.Bounds.the-variants.{Outside, Cuts, Empty, Good}
@@ -21,16 +17,13 @@ use Rattle.text.specs.Spans.{partOf, boundsOf}
 use Rattle.tape.specs.declared.refusal.Fault.{Fault}
 use Rattle.tape.specs.declared.refusal.Fault.the-variants as fault
 use Rattle.commands.specs.declared.root.Place.{Place}
-use Rattle.commands.specs.declared.root.NameCommand.the-variants as names
-use Rattle.commands.specs.declared.root.MemberCommand.the-variants as members
 use Rattle.commands.specs.declared.root.AttributeCommand.the-variants as attributes
-use Rattle.commands.specs.declared.root.PropertyCommand.the-variants as properties
 use Rattle.commands.specs.declared.root.ValueCommand.the-variants as values
 use Rattle.commands.specs.declared.root.ChildCommand.the-variants as children
-use Rattle.commands.specs.Root.{nameCommand, memberCommand, attributeCommand, propertyCommand, valueCommand, childCommand}
+use Rattle.commands.specs.Root.{attributeCommand, valueCommand, childCommand}
 use Rattle.definitions.specs.Judging.{Parsed, done, stop, _then_, map, from, spanned, named, worse}
-use Rattle.definitions.specs.Tree.{Name, plain, identifier, this, namespaced, Property, Node, element, fragment, Attributes, noAttributes, attribute, namespacedAttribute, spread, literal, Value, absent, string, expression, empty, nodeValue, Children, noChildren, textChild, expressionChild, emptyChild, spreadChild, nodeChild}
-use Rattle.definitions.specs.Reading.{ampersand, lettered, opened, membersBy, nameBy, propertiesBy, attributesBy, valueBy, childrenBy, membersAt, nameAt, propertiesAt, elementAt, fragmentAt, attributesAt, valueAt, childrenAt}
+use Rattle.definitions.specs.Tree.{Name, Property, Node, element, fragment, Attributes, noAttributes, attribute, namespacedAttribute, spread, literal, Value, absent, string, expression, empty, nodeValue, Children, noChildren, textChild, expressionChild, emptyChild, spreadChild, nodeChild}
+use Rattle.definitions.specs.Reading.{ampersand, lettered, opened, attributesBy, valueBy, childrenBy, nameAt, propertiesAt, elementAt, fragmentAt, attributesAt, valueAt, childrenAt}
 
 -- ---- how readings are put together, backwards
 

@@ -3,7 +3,7 @@
 use mathlib.Core.Path.{_≡_, refl, sym, ap, subst, _∙_}
 use mathlib.Core.Bool.{Bool, true, false, cond, not, _||_, _&&_}
 use mathlib.Core.List.{List, [], _∷_, _++_, append-assoc}
-use Prim.Native.Nat.{ℕ, zero, suc, _+_, _≤_, _<_, _^_}
+use Prim.Native.Nat.{ℕ, suc, _+_, _≤_, _<_, _^_}
 use native.Mathlib.Omega.{arith}
 use lib.ListN.{length, drop}
 use lib.Seq.{drop-drop}
@@ -11,22 +11,20 @@ use lib.Dec.{eqb}
 use borrow.Author.Tests.{eq-eqb, ne-eqb}
 use Rattle.text.specs.declared.spans.Span.{Span}
 use Rattle.commands.specs.declared.root.Place.{Place}
-use Rattle.commands.specs.declared.root.AttributeCommand.the-variants as attributes
 use Rattle.commands.specs.declared.root.ValueCommand.the-variants as values
-use Rattle.commands.specs.declared.root.ChildCommand.the-variants as kids
-use Rattle.commands.specs.Root.{attributeCommand, valueCommand, childCommand}
+use Rattle.commands.specs.Root.{valueCommand}
 use Rattle.definitions.specs.Calls as call
 use Rattle.definitions.specs.Judging.{Parsed, done}
-use Rattle.definitions.specs.Tree.{Name, Node, element, fragment, Attributes, noAttributes, attribute, namespacedAttribute, spread, literal, Value, absent, string, expression, empty, nodeValue, Children, noChildren, textChild, expressionChild, emptyChild, spreadChild, nodeChild}
-use Rattle.definitions.specs.Reading.{elementAt, fragmentAt, attributesAt, valueAt, childrenAt}
+use Rattle.definitions.specs.Tree.{Name, Node, element, fragment, Attributes, attribute, Value, expression, nodeValue, Children, noChildren, textChild, expressionChild, emptyChild, spreadChild, nodeChild}
+use Rattle.definitions.specs.Reading.{valueAt}
 use Rattle.definitions.specs.JsxText.{jsxText}
-use Rattle.definitions.specs.Lowering.{Context, Output, put, putByte, putOver, piece, quoted, calleeNamed, pureByte, closing, classicCall, classicElement, isClassic, automaticCall, automaticName, childrenProperty, formOf, staticChildren, objectOf, survivors, hasSpread, someLine, lowerText, lowerKey, lowerNode, lowerValue, lowerChildren}
+use Rattle.definitions.specs.Lowering.{Context, Output, put, putByte, putOver, piece, quoted, calleeNamed, pureByte, closing, classicCall, classicElement, isClassic, automaticCall, automaticName, childrenProperty, formOf, staticChildren, objectOf, survivors, hasSpread, someLine, lowerText, isKey, hasValue, keyNotice, attributeName, lowerAttributes, lowerKey, lowerNode, lowerValue, lowerChildren}
 use Rattle.definitions.specs.Store.{createElement}
 use Rattle.emit.specs.declared.pen.Pen.{Pen}
 use Rattle.emit.specs.Emitting.{Called, Produced}
 use Rattle.jsx.specs.Parts.{Written, someOutput, KeyFirst, other, first, KeyAt, no-key, key-at, childrenObject, Step, ends, goes, classicCallOf, automaticElement, classicProperties, classicFragment, automaticFragment}
-use Rattle.jsx.proofs.Inversions.{Behind, Opening, NodeFirst, value-absent, value-empty, value-expression, value-text, children-end, children-text, children-expression, children-empty, children-spread}
-use Rattle.jsx.proofs.Writing.{none, along, called, being}
+use Rattle.jsx.proofs.Inversions.{Behind, value-absent, value-empty, value-expression, value-text}
+use Rattle.jsx.proofs.Writing.{along, called, being}
 
 -- ---- values
 
@@ -227,3 +225,32 @@ module _ (c : Context) (k : Children) where
   pub node-counts : (n : Node) → (survivors c (nodeChild n k) ≡ 1 + survivors c k) × (hasSpread (nodeChild n k) ≡ (false || hasSpread k))
   unfolding survivors hasSpread
   node-counts n = (omega arith, refl)
+
+-- ---- attributes, one at a time: what a step writes
+
+module _ (c : Context) (classic : Bool) (s : Span) (v : Value) (a : Attributes) where
+  -- a key with a value is no property of an automatic call
+  pub key-passed : (isKey c s && hasValue v) ≡ true → classic ≡ false → lowerAttributes c classic (attribute s v a) ≡ [] ++ lowerAttributes c classic a
+  unfolding lowerAttributes
+  key-passed h i = go (isKey c s && hasValue v) (not classic) _ _ h (ap not i)
+    where
+      go : (x y : Bool) (p q : List Output) → x ≡ true → y ≡ true → cond (x && y) p q ≡ p
+      go x y p q h i = rw (h, i) refl
+
+  pub property-written : (isKey c s && hasValue v) ≡ false
+      → lowerAttributes c classic (attribute s v a) ≡ ((keyNotice c s v ++ attributeName c s) ++ lowerValue c v) ++ lowerAttributes c classic a
+  unfolding lowerAttributes
+  property-written h = go (isKey c s && hasValue v) (not classic) _ _ h
+    where
+      go : (x y : Bool) (p q : List Output) → x ≡ false → cond (x && y) p q ≡ q
+      go x y p q h = rw h refl
+
+  -- every key is a property of a classic call
+  pub classic-property : classic ≡ true
+      → lowerAttributes c classic (attribute s v a) ≡ ((keyNotice c s v ++ attributeName c s) ++ lowerValue c v) ++ lowerAttributes c classic a
+  unfolding lowerAttributes
+  classic-property h = go (isKey c s && hasValue v) (not classic) _ _ (ap not h)
+    where
+      go : (x y : Bool) (p q : List Output) → y ≡ false → cond (x && y) p q ≡ q
+      go true y p q h = rw h refl
+      go false y p q h = refl

@@ -3,7 +3,7 @@
 use mathlib.Core.Path.{_≡_, refl, sym, ap, subst, _∙_}
 use mathlib.Core.Bool.{Bool, true, false, cond, not, _||_, _&&_}
 use mathlib.Core.List.{List, [], _∷_, _++_}
-use Prim.Native.Nat.{ℕ, zero, suc, _+_, _-_, _≤_, _<_}
+use Prim.Native.Nat.{ℕ, _+_, _-_, _≤_, _<_}
 use native.Mathlib.Omega.{arith}
 use lib.ListN.{length, take, drop, length-drop}
 use Rattle.text.specs.declared.spans.Span.{Span}
@@ -15,14 +15,14 @@ use Rattle.commands.specs.Root.{attributeCommand}
 use Rattle.definitions.specs.declared.options.Settings.{Settings}
 use Rattle.definitions.specs.declared.records.Import.the-variants.{FileName}
 use Rattle.definitions.specs.Calls as call
-use Rattle.definitions.specs.Judging.{Parsed, done}
+use Rattle.definitions.specs.Judging.{done}
 use Rattle.definitions.specs.Tree.{Property, Attributes, noAttributes, attribute, namespacedAttribute, spread, literal}
 use Rattle.definitions.specs.Reading.{propertiesAt, attributesAt}
 use Rattle.definitions.specs.Lowering.{Context, Output, emit, put, putOver, hasProto, pluginsOff, isLast, loneSpreadOr, selfOutput, sourceOutput}
 use Rattle.jsx.specs.declared.jsx_impl.Lone.{Lone}
 use Rattle.jsx.specs.declared.jsx_impl.Lone.the-variants as lone
 use Rattle.jsx.specs.Parts.{someOutput, SoleAt, Alone, LoneWithin}
-use Rattle.jsx.proofs.Inversions.{Behind, Within, attributes-end, attributes-wrong, attributes-cut, attributes-plain, attributes-namespaced, attributes-spread, attributes-literal}
+use Rattle.jsx.proofs.Inversions.{attributes-end, attributes-wrong, attributes-cut, attributes-plain, attributes-namespaced, attributes-spread, attributes-literal}
 
 -- ---- whether the attributes end n bytes behind the front
 

@@ -3,24 +3,21 @@
 --     instead                      a command over one that came to nothing
 -- Assumes nothing.
 use mathlib.Core.Path.{_≡_, refl, sym, ap, subst, _∙_}
-use mathlib.Core.Bool.{Bool, true, false, cond, not, _||_, _&&_}
+use mathlib.Core.Bool.{Bool, true, false, cond, not, _&&_}
 use mathlib.Core.List.{List, [], _∷_, _++_}
-use Prim.Native.Nat.{ℕ, _+_, _≤_, _<_, _^_}
+use Prim.Native.Nat.{ℕ, _+_, _≤_, _^_}
 use native.Mathlib.Omega.{arith}
 use lib.ListN.{length}
-use lib.Seq.{sets}
-use Rattle.definitions.specs.declared.records.Import.{Import}
-use Rattle.definitions.specs.declared.records.Record.{Record}
 use Rattle.text.specs.declared.spans.Span.{Span}
 use Rattle.tape.specs.Targets.{Wrote}
-use Rattle.definitions.specs.Calls.{Bare, bareCode, bytesOf, callBytes, noticeBytes, valuelessKey}
+use Rattle.definitions.specs.Calls.{Bare, bytesOf, callBytes, noticeBytes, valuelessKey}
 use Rattle.definitions.specs.Tree.{Value}
 use Rattle.definitions.specs.Lowering.{Context, Output, notify, put, commandsOf, noticesOf, isKey, hasValue, keyNotice, lowerText}
 use Rattle.definitions.specs.Store.{boundBy, boundAfter, numbered, numberedAll}
 use Rattle.emit.specs.declared.pen.Pen.{Pen}
-use Rattle.emit.specs.Emitting.{callsFrom, noticesFrom, boundFrom, Stands, Emitted, Called, Noticed, Produced}
+use Rattle.emit.specs.Emitting.{callsFrom, noticesFrom, boundFrom, Emitted, Called, Noticed, Produced}
 use Rattle.jsx_text.specs.TextBytes.{textBytes}
-use Rattle.emit.proofs.Emitting.{emitted-none, emitted-then, emitted-over, was-free, standing-full}
+use Rattle.emit.proofs.Emitting.{emitted-none, emitted-then, emitted-over, standing-full}
 use Rattle.tape.proofs.Targets.{wrote-small}
 use Rattle.jsx_text.proofs.Unbound.{text-anywhere, text-binds-nothing, text-silent}
 
@@ -96,3 +93,9 @@ instead {b} {b′} {os} {cs} {cs₁} {cs₂} {cs₃} {ns} {ns₁} {p} {p₁} {p�
     let same : ns₁ ≡ ns = e .notices in
     let f : Emitted a js (put b′) cs₂ cs₃ ns ns₁ p p₃ = subst (λ (l : List ℕ). Emitted a js (put b′) cs₂ cs₃ ns l p p₃) (sym same) (x a js ns s) in
     emitted-over (omega arith) (λ h. e .fullness ∙ sym (standing-full s) ∙ h) e f
+
+-- the same from a place that is the pen's, if the pen stands
+pub text-called-at : (ls : List Span) {cs cs′ : List ℕ} {p : Pen} {at n : ℕ} → (p .calls ≤ 2 ^ 63 → at ≡ p .calls) → Wrote cs cs′ at n (textBytes ls)
+    → Called (lowerText ls) cs cs′ p (record { calls = n; notices = p .notices; store = p .store; full = p .full })
+text-called-at ls {cs} {cs′} {p} {at} {n} e w a js ns s =
+    text-called ls (subst (λ (q : ℕ). Wrote cs cs′ q n (textBytes ls)) (e (s .calls-small)) w) a js ns s

@@ -1,23 +1,21 @@
 // The parts of a root's tree (jsx_impl.rs) that hold no element. A tape that does not read gives nothing of use: it has been refused before.
 ghost use mathlib.Core.Path.{_≡_};
-ghost use mathlib.Core.Bool.{Bool, true, false, cond, _||_, _&&_};
-ghost use mathlib.Core.List.{List, [], _∷_, _++_};
-ghost use Prim.Native.Nat.{ℕ, suc, _+_, _≤_, _<_, _^_};
+ghost use mathlib.Core.Bool.{true, false, cond, _&&_};
+ghost use mathlib.Core.List.{List, _++_};
+ghost use Prim.Native.Nat.{ℕ, _+_, _≤_, _<_, _^_};
 ghost use lib.Dec.{eqb};
 ghost use lib.ListN.{length, drop};
 ghost use Rattle.text.specs.declared.bytes.Found.the-variants.{Nothing};
 ghost use Rattle.text.specs.declared.spans.Span as spans;
 ghost use Rattle.text.specs.Spans.{partOf};
 ghost use Rattle.text.specs.Utf8.{firstIll};
-ghost use Rattle.definitions.specs.Calls as call;
 ghost use Rattle.definitions.specs.Judging.{done};
-ghost use Rattle.definitions.specs.Tree.{Name, Property, Node, Attributes, Value, Children};
-ghost use Rattle.definitions.specs.Reading.{membersAt, nameAt, propertiesAt, elementAt, fragmentAt, attributesAt, valueAt, childrenAt};
+ghost use Rattle.definitions.specs.Tree.{Name, Property, Attributes, Value, Children};
+ghost use Rattle.definitions.specs.Reading.{membersAt, nameAt, propertiesAt, attributesAt, valueAt};
 ghost use Rattle.definitions.specs.Lowering as lowering;
-ghost use Rattle.definitions.specs.Lowering.{Context, Output, put, putOver, isKey, hasValue, hasProto, keyNotice, attributeName, keyAfterSpread, classicElement, survivors, hasSpread, formOf, childrenProperty, lowerLiteral, lowerText, objectOf, loneSpreadOr, selfOutput, sourceOutput, noKey, classicCall, automaticCall, lowerNode, lowerAttributes, lowerKey, lowerValue, lowerChildren, lowerName, someLine};
-ghost use Rattle.definitions.specs.JsxText.{jsxText};
-ghost use Rattle.emit.specs.Emitting.{Called, Noticed, Produced};
-ghost use Rattle.jsx.specs.Parts.{context, Written, Countable, Moves, ChildStep, ChildrenWritten, AttributeStep, AttributesWritten, KeyAt, Parts, SoleAt, IsText, TextWritten, LiteralWritten, someOutput, childrenObject, automaticElement, classicProperties, classicCallOf, classicFragment, automaticFragment, Alone, LoneWithin, FrontWithin, FrontIs};
+ghost use Rattle.definitions.specs.Lowering.{Context, Output, isKey, hasValue, keyNotice, keyAfterSpread, classicElement, formOf, lowerLiteral, selfOutput, sourceOutput};
+ghost use Rattle.emit.specs.Emitting.{Noticed};
+ghost use Rattle.jsx.specs.Parts.{SoleAt, IsText, TextWritten, LiteralWritten, someOutput, Alone, LoneWithin, FrontWithin, FrontIs};
 ghost use Rattle.roots.specs.InOrder.{Inside};
 ghost use Rattle.commands.specs.declared.root.Place as places;
 use commands::root::AttributeCommand;
@@ -392,15 +390,25 @@ fn kept(survives: bool) -> usize
     if survives { 1 } else { 0 }
 }
 
+// A place that is none past the limit of places: a pen that stands has no other.
+fn capped(at: usize) -> usize
+    ensures { λ r. ⌜ (r ≤ 2 ^ 63) × (at ≤ 2 ^ 63 → r ≡ at) ⌝ }
+{
+    if at > 0x8000_0000_0000_0000 {
+        return 0x8000_0000_0000_0000;
+    }
+    at
+}
+
 // A text child that lies in the text.
 fn text_lines(text: &[u8], span: Span, calls: &mut [u8], pen: Pen) -> Items
     requires { ⌜ length (now text) ≤ 65535 ⌝ }
     requires { ⌜ firstIll (partOf (now text) span) ≡ Nothing ⌝ }
-    requires { ⌜ pen .calls ≤ 2 ^ 63 ⌝ }
     ensures { λ r. ⌜ IsText r ⌝ }
     ensures { λ r. ⌜ TextWritten (now (text .entry)) span (now (calls .entry)) (now (calls .exit)) pen r ⌝ }
 {
-    let texted = fixup_whitespace_and_decode_entities(text, span, calls, pen.calls);
+    let at = capped(pen.calls);
+    let texted = fixup_whitespace_and_decode_entities(text, span, calls, at);
     let mut next = pen;
     next.calls = texted.at;
     Items {
@@ -425,16 +433,13 @@ fn no_text(pen: Pen) -> Items
     }
 }
 
-// A text child: the pen after its lines, and how many children it is, 0 or 1. A tape that reads has no other span, and a pen no other place.
+// A text child: the pen after its lines, and how many children it is, 0 or 1. A tape that reads has no span that is not in the text.
 fn transform_jsx_text(text: &[u8], span: Span, calls: &mut [u8], pen: Pen) -> Items
     requires { ⌜ length (now text) ≤ 65535 ⌝ }
     requires { ⌜ firstIll (now text) ≡ Nothing ⌝ }
     ensures { λ r. ⌜ IsText r ⌝ }
-    ensures { λ r. ⌜ (Inside (now (text .entry)) span → pen .calls ≤ 2 ^ 63 → TextWritten (now (text .entry)) span (now (calls .entry)) (now (calls .exit)) pen r) ⌝ }
+    ensures { λ r. ⌜ (Inside (now (text .entry)) span → TextWritten (now (text .entry)) span (now (calls .entry)) (now (calls .exit)) pen r) ⌝ }
 {
-    if pen.calls > 0x8000_0000_0000_0000 {
-        return no_text(pen);
-    }
     let bounds = span_bounds(text, span);
     match bounds {
         Bounds::Outside => no_text(pen),

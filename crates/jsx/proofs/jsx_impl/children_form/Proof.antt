@@ -1,16 +1,8 @@
-use mathlib.Core.Bool.{Bool, true, false, cond, not, _||_, _&&_}
-use mathlib.Core.List.{List, []}
-use Rattle.text.proofs.Lists.{told, tail-part}
 use borrow.Author.Tests.{eq-eqb, ne-eqb}
-use borrow.Author.Needs.{needs}
-use Prim.Native.Nat.{ℕ, suc, _≤_, _<_, _+_, _-_}
-use native.Mathlib.Omega.{arith}
-use mathlib.Core.Path.{_≡_, refl, sym, ap, subst, _∙_}
-use lib.ListN.{length, getD, take, drop}
+use Prim.Native.Nat.{_-_}
+use mathlib.Core.Path.{refl}
 use Rattle.jsx.proofs.jsx_impl.children_form.Statement.{statement}
 use Rattle.jsx.proofs.jsx_impl.children_form.Tie as tie
-use Rattle.jsx.proofs.jsx_impl.children_form.Reads as reads
-use Rattle.jsx.proofs.jsx_impl.children_form.Lts as lts
 
 -- src/jsx_impl.rt:206:9
 returns : tie.Need-returns

@@ -1,27 +1,16 @@
-use mathlib.Core.Bool.{Bool, true, false, cond, not, _||_, _&&_}
-use mathlib.Core.List.{List, []}
 use Rattle.text.proofs.Lists.{told, tail-part}
 use Rattle.jsx.proofs.Fronts.{front-key, front-plain, front-namespaced, front-spread, front-literal, front-end, passing, passing-properties}
 use Rattle.jsx.proofs.Inversions.{attributes-wrong, attributes-cut}
 use Rattle.commands.proofs.Lengths.{attribute-fits}
 use lib.ListN.{length-drop}
 use Rattle.text.proofs.Sequences.{both}
-use Rattle.definitions.specs.Tree.{Value, Property}
-use Rattle.definitions.specs.Judging.{done}
-use Rattle.definitions.specs.Reading.{valueAt, propertiesAt, attributesAt}
-use Prim.Native.Nat.{ℕ, suc, _≤_, _<_, _+_, _-_}
+use Prim.Native.Nat.{_-_}
 use native.Mathlib.Omega.{arith}
-use mathlib.Core.Path.{_≡_, refl, sym, ap, subst, _∙_}
-use lib.ListN.{length, getD, take, drop}
+use mathlib.Core.Path.{ap}
+use lib.ListN.{length}
 use borrow.Author.Needs.{needs}
 use Rattle.jsx.proofs.jsx_impl.front_attribute.Statement.{statement}
 use Rattle.jsx.proofs.jsx_impl.front_attribute.Tie as tie
-use Rattle.jsx.proofs.jsx_impl.front_attribute.Reads as reads
-use Rattle.jsx.proofs.jsx_impl.front_attribute.Lts as lts
-use Rattle.jsx.proofs.jsx_impl.is_late_key.Reads as is-late-key-reads
-use Rattle.roots.proofs.skip.skip_properties.Reads as skip-properties-reads
-use Rattle.roots.proofs.skip.skip_value.Reads as skip-value-reads
-use Rattle.commands.proofs.root.attribute_command_at.Reads as attribute-command-at-reads
 
 -- src/jsx_impl.rt:326:9
 attribute-command-at-requires : tie.Need-attribute-command-at-requires

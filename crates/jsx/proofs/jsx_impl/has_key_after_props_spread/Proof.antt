@@ -1,6 +1,4 @@
-use mathlib.Core.Bool.{Bool, true, false, cond, not, _||_, _&&_}
-use mathlib.Core.List.{List, []}
-use Rattle.text.proofs.Lists.{told, tail-part}
+use Rattle.text.proofs.Lists.{tail-part}
 use Rattle.jsx.proofs.Fronts.{KeysLeft, keys-key, keys-end, keys-spread, keys-other}
 use lib.ListN.{length-drop}
 use Rattle.definitions.specs.Tree.{Attributes}
@@ -8,15 +6,12 @@ use Rattle.definitions.specs.Judging.{done}
 use Rattle.definitions.specs.Reading.{attributesAt}
 use Rattle.definitions.specs.Lowering.{Context}
 use borrow.Author.Needs.{needs}
-use Prim.Native.Nat.{ℕ, suc, _≤_, _<_, _+_, _-_}
+use Prim.Native.Nat.{ℕ, _≤_, _<_, _-_}
 use native.Mathlib.Omega.{arith}
-use mathlib.Core.Path.{_≡_, refl, sym, ap, subst, _∙_}
-use lib.ListN.{length, getD, take, drop}
+use mathlib.Core.Path.{_≡_, refl, ap}
+use lib.ListN.{length}
 use Rattle.jsx.proofs.jsx_impl.has_key_after_props_spread.Statement.{statement}
 use Rattle.jsx.proofs.jsx_impl.has_key_after_props_spread.Tie as tie
-use Rattle.jsx.proofs.jsx_impl.has_key_after_props_spread.Reads as reads
-use Rattle.jsx.proofs.jsx_impl.has_key_after_props_spread.Lts as lts
-use Rattle.jsx.proofs.jsx_impl.front_attribute.Reads as front-attribute-reads
 
 abbrev Inv-loop : tie.InvT-loop
 Inv-loop text tape i₀ seen₀ i seen = (i ≤ length tape) × ((k : Context) → k .text ≡ text → (f d : ℕ) (a : Attributes) (u : ℕ) → length tape < f → attributesAt f text d tape ≡ done a u → KeysLeft k text tape d a i seen)

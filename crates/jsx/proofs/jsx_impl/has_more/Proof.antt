@@ -1,17 +1,9 @@
-use mathlib.Core.Bool.{Bool, true, false, cond, not, _||_, _&&_}
-use mathlib.Core.List.{List, []}
-use Rattle.text.proofs.Lists.{told, tail-part}
 use Rattle.jsx.proofs.Spreading.{more-some, more-source, more-self, more-none}
 use Rattle.definitions.specs.declared.options.Settings.{Settings}
-use borrow.Author.Needs.{needs}
-use Prim.Native.Nat.{ℕ, suc, _≤_, _<_, _+_, _-_}
-use native.Mathlib.Omega.{arith}
-use mathlib.Core.Path.{_≡_, refl, sym, ap, subst, _∙_}
-use lib.ListN.{length, getD, take, drop}
+use Prim.Native.Nat.{_-_}
+use mathlib.Core.Path.{sym, ap, _∙_}
 use Rattle.jsx.proofs.jsx_impl.has_more.Statement.{statement}
 use Rattle.jsx.proofs.jsx_impl.has_more.Tie as tie
-use Rattle.jsx.proofs.jsx_impl.has_more.Reads as reads
-use Rattle.jsx.proofs.jsx_impl.has_more.Lts as lts
 
 -- src/jsx_impl.rt:217:9
 returns : tie.Need-returns

@@ -1,17 +1,9 @@
-use mathlib.Core.Bool.{Bool, true, false, cond, not, _||_, _&&_}
-use mathlib.Core.List.{List, []}
-use Rattle.text.proofs.Lists.{told, tail-part}
+use Rattle.text.proofs.Lists.{told}
 use Rattle.jsx.proofs.Fronts.{end-property, unnamed-property, named-property, wrong-property, cut-property}
-use Prim.Native.Nat.{ℕ, suc, _≤_, _<_, _+_, _-_}
-use native.Mathlib.Omega.{arith}
-use mathlib.Core.Path.{_≡_, refl, sym, ap, subst, _∙_}
-use lib.ListN.{length, getD, take, drop}
+use Prim.Native.Nat.{_-_}
 use borrow.Author.Needs.{needs}
 use Rattle.jsx.proofs.jsx_impl.has_property.Statement.{statement}
 use Rattle.jsx.proofs.jsx_impl.has_property.Tie as tie
-use Rattle.jsx.proofs.jsx_impl.has_property.Reads as reads
-use Rattle.jsx.proofs.jsx_impl.has_property.Lts as lts
-use Rattle.commands.proofs.root.property_command_at.Reads as property-command-at-reads
 
 -- src/jsx_impl.rt:233:9
 property-command-at-requires : tie.Need-property-command-at-requires

@@ -1,18 +1,10 @@
-use mathlib.Core.Bool.{Bool, true, false, cond, not, _||_, _&&_}
-use mathlib.Core.List.{List, []}
-use Rattle.text.proofs.Lists.{told, tail-part}
+use Rattle.text.proofs.Lists.{told}
 use Rattle.jsx.proofs.Fronts.{absent-value, text-value, expression-value, empty-value, element-value, fragment-value}
 use Rattle.jsx.proofs.Inversions.{value-wrong, value-cut}
-use Prim.Native.Nat.{ℕ, suc, _≤_, _<_, _+_, _-_}
-use native.Mathlib.Omega.{arith}
-use mathlib.Core.Path.{_≡_, refl, sym, ap, subst, _∙_}
-use lib.ListN.{length, getD, take, drop}
+use Prim.Native.Nat.{_-_}
 use borrow.Author.Needs.{needs}
 use Rattle.jsx.proofs.jsx_impl.has_value.Statement.{statement}
 use Rattle.jsx.proofs.jsx_impl.has_value.Tie as tie
-use Rattle.jsx.proofs.jsx_impl.has_value.Reads as reads
-use Rattle.jsx.proofs.jsx_impl.has_value.Lts as lts
-use Rattle.commands.proofs.root.value_command_at.Reads as value-command-at-reads
 
 -- src/jsx_impl.rt:106:9
 value-command-at-requires : tie.Need-value-command-at-requires

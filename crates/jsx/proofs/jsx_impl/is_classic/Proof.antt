@@ -1,16 +1,9 @@
-use mathlib.Core.Bool.{Bool, true, false, cond, not, _||_, _&&_}
-use mathlib.Core.List.{List, []}
-use Rattle.text.proofs.Lists.{told, tail-part}
 use Rattle.definitions.specs.Lowering.{isClassic}
-use Prim.Native.Nat.{ℕ, suc, _≤_, _<_, _+_, _-_}
-use native.Mathlib.Omega.{arith}
-use mathlib.Core.Path.{_≡_, refl, sym, ap, subst, _∙_}
-use lib.ListN.{length, getD, take, drop}
+use Prim.Native.Nat.{_-_}
+use mathlib.Core.Path.{refl}
 use borrow.Author.Needs.{needs}
 use Rattle.jsx.proofs.jsx_impl.is_classic.Statement.{statement}
 use Rattle.jsx.proofs.jsx_impl.is_classic.Tie as tie
-use Rattle.jsx.proofs.jsx_impl.is_classic.Reads as reads
-use Rattle.jsx.proofs.jsx_impl.is_classic.Lts as lts
 
 -- src/jsx_impl.rt:90:25
 enum-told : tie.Need-enum-told

@@ -1,19 +1,12 @@
-use mathlib.Core.Bool.{Bool, true, false, cond, not, _||_, _&&_}
-use mathlib.Core.List.{List, []}
-use Rattle.text.proofs.Lists.{told, tail-part}
+use mathlib.Core.Bool.{Bool, false, _||_}
+use Rattle.text.proofs.Lists.{told}
 use Rattle.definitions.specs.declared.options.Settings.{Settings}
 use Rattle.definitions.specs.Lowering.{isClassic, keyAfterSpread}
-use Prim.Native.Nat.{ℕ, suc, _≤_, _<_, _+_, _-_}
-use native.Mathlib.Omega.{arith}
-use mathlib.Core.Path.{_≡_, refl, sym, ap, subst, _∙_}
-use lib.ListN.{length, getD, take, drop}
+use Prim.Native.Nat.{_-_}
+use mathlib.Core.Path.{sym, ap, _∙_}
 use borrow.Author.Needs.{needs}
 use Rattle.jsx.proofs.jsx_impl.is_classic_element.Statement.{statement}
 use Rattle.jsx.proofs.jsx_impl.is_classic_element.Tie as tie
-use Rattle.jsx.proofs.jsx_impl.is_classic_element.Reads as reads
-use Rattle.jsx.proofs.jsx_impl.is_classic_element.Lts as lts
-use Rattle.jsx.proofs.jsx_impl.has_key_after_props_spread.Reads as has-key-after-props-spread-reads
-use Rattle.jsx.proofs.jsx_impl.is_classic.Reads as is-classic-reads
 
 -- src/jsx_impl.rt:320:8
 is-classic-requires : tie.Need-is-classic-requires

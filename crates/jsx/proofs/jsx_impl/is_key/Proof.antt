@@ -1,18 +1,8 @@
-use mathlib.Core.Bool.{Bool, true, false, cond, not, _||_, _&&_}
-use mathlib.Core.List.{List, []}
-use Rattle.text.proofs.Lists.{told, tail-part}
 use Rattle.text.specs.Bytes.{same}
-use Prim.Native.Nat.{ℕ, suc, _≤_, _<_, _+_, _-_}
-use native.Mathlib.Omega.{arith}
-use mathlib.Core.Path.{_≡_, refl, sym, ap, subst, _∙_}
-use lib.ListN.{length, getD, take, drop}
+use Prim.Native.Nat.{_-_}
 use borrow.Author.Needs.{needs}
 use Rattle.jsx.proofs.jsx_impl.is_key.Statement.{statement}
 use Rattle.jsx.proofs.jsx_impl.is_key.Tie as tie
-use Rattle.jsx.proofs.jsx_impl.is_key.Reads as reads
-use Rattle.jsx.proofs.jsx_impl.is_key.Lts as lts
-use Rattle.text.proofs.bytes.same.Reads as same-reads
-use Rattle.text.proofs.spans.part.Reads as part-reads
 
 -- src/jsx_impl.rt:99:10
 part-requires : tie.Need-part-requires

@@ -1,20 +1,11 @@
-use mathlib.Core.Bool.{Bool, true, false, cond, not, _||_, _&&_}
-use mathlib.Core.List.{List, []}
-use Rattle.text.proofs.Lists.{told, tail-part}
+use Rattle.text.proofs.Lists.{told}
 use Rattle.jsx.proofs.Writing.{unnoticed, noticing, notice-other, notice-valued, notice-key}
 use borrow.Author.Tests.{not-true, not-false}
-use Prim.Native.Nat.{ℕ, suc, _≤_, _<_, _+_, _-_}
-use native.Mathlib.Omega.{arith}
-use mathlib.Core.Path.{_≡_, refl, sym, ap, subst, _∙_}
-use lib.ListN.{length, getD, take, drop}
+use Prim.Native.Nat.{_-_}
+use mathlib.Core.Path.{sym}
 use borrow.Author.Needs.{needs}
 use Rattle.jsx.proofs.jsx_impl.key_notice.Statement.{statement}
 use Rattle.jsx.proofs.jsx_impl.key_notice.Tie as tie
-use Rattle.jsx.proofs.jsx_impl.key_notice.Reads as reads
-use Rattle.jsx.proofs.jsx_impl.key_notice.Lts as lts
-use Rattle.emit.proofs.diagnostics.valueless_key.Reads as valueless-key-reads
-use Rattle.jsx.proofs.jsx_impl.has_value.Reads as has-value-reads
-use Rattle.jsx.proofs.jsx_impl.is_key.Reads as is-key-reads
 
 -- src/jsx_impl.rt:322:9
 is-key-requires : tie.Need-is-key-requires

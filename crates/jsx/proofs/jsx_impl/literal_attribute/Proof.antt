@@ -1,20 +1,15 @@
-use mathlib.Core.Bool.{Bool, true, false, cond, not, _||_, _&&_}
-use mathlib.Core.List.{List, []}
-use Rattle.text.proofs.Lists.{told, tail-part}
+use mathlib.Core.List.{List}
+use Rattle.text.proofs.Lists.{tail-part}
 use Rattle.definitions.specs.Judging.{done}
 use Rattle.definitions.specs.Reading.{propertiesAt}
 use lib.ListN.{length-drop}
-use Prim.Native.Nat.{ℕ, suc, _≤_, _<_, _+_, _-_}
+use Prim.Native.Nat.{ℕ, _+_, _-_}
 use native.Mathlib.Omega.{arith}
-use mathlib.Core.Path.{_≡_, refl, sym, ap, subst, _∙_}
-use lib.ListN.{length, getD, take, drop}
+use mathlib.Core.Path.{_≡_, refl, ap, _∙_}
+use lib.ListN.{length, take, drop}
 use borrow.Author.Needs.{needs}
 use Rattle.jsx.proofs.jsx_impl.literal_attribute.Statement.{statement}
 use Rattle.jsx.proofs.jsx_impl.literal_attribute.Tie as tie
-use Rattle.jsx.proofs.jsx_impl.literal_attribute.Reads as reads
-use Rattle.jsx.proofs.jsx_impl.literal_attribute.Lts as lts
-use Rattle.emit.proofs.jsx_impl.lower_literal.Reads as lower-literal-reads
-use Rattle.jsx.proofs.jsx_impl.has_property.Reads as has-property-reads
 
 -- src/jsx_impl.rt:251:29
 sub-has-property : tie.Need-sub-has-property

@@ -1,21 +1,14 @@
-use mathlib.Core.Bool.{Bool, true, false, cond, not, _||_, _&&_}
-use mathlib.Core.List.{List, []}
 use Rattle.text.proofs.Lists.{told, tail-part}
 use Rattle.jsx.proofs.Spreading.{lone-on, lone-plain, lone-namespaced, lone-end, lone-wrong, lone-cut, lone-spread, lone-literal, lone-proto, on-self, on-source, off-both, alone-within, proto-behind}
 use Rattle.commands.proofs.Lengths.{attribute-fits}
 use lib.ListN.{length-drop}
-use Prim.Native.Nat.{ℕ, suc, _≤_, _<_, _+_, _-_}
+use Prim.Native.Nat.{_-_}
 use native.Mathlib.Omega.{arith}
-use mathlib.Core.Path.{_≡_, refl, sym, ap, subst, _∙_}
-use lib.ListN.{length, getD, take, drop}
+use mathlib.Core.Path.{ap}
+use lib.ListN.{length}
 use borrow.Author.Needs.{needs}
 use Rattle.jsx.proofs.jsx_impl.lone_spread.Statement.{statement}
 use Rattle.jsx.proofs.jsx_impl.lone_spread.Tie as tie
-use Rattle.jsx.proofs.jsx_impl.lone_spread.Reads as reads
-use Rattle.jsx.proofs.jsx_impl.lone_spread.Lts as lts
-use Rattle.emit.proofs.jsx_impl.has_proto.Reads as has-proto-reads
-use Rattle.jsx.proofs.jsx_impl.sole.Reads as sole-reads
-use Rattle.commands.proofs.root.attribute_command_at.Reads as attribute-command-at-reads
 
 -- src/jsx_impl.rt:287:9
 returns : tie.Need-returns

@@ -1,16 +1,9 @@
-use mathlib.Core.Bool.{Bool, true, false, cond, not, _||_, _&&_}
-use mathlib.Core.List.{List, []}
-use Rattle.text.proofs.Lists.{told, tail-part}
 use borrow.Author.Tests.{eq-eqb, ne-eqb}
-use Prim.Native.Nat.{ℕ, suc, _≤_, _<_, _+_, _-_}
-use native.Mathlib.Omega.{arith}
-use mathlib.Core.Path.{_≡_, refl, sym, ap, subst, _∙_}
-use lib.ListN.{length, getD, take, drop}
+use Prim.Native.Nat.{_-_}
+use mathlib.Core.Path.{refl}
 use borrow.Author.Needs.{needs}
 use Rattle.jsx.proofs.jsx_impl.newer.Statement.{statement}
 use Rattle.jsx.proofs.jsx_impl.newer.Tie as tie
-use Rattle.jsx.proofs.jsx_impl.newer.Reads as reads
-use Rattle.jsx.proofs.jsx_impl.newer.Lts as lts
 
 -- src/jsx_impl.rt:196:9
 returns : tie.Need-returns

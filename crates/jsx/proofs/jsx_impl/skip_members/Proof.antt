@@ -1,6 +1,4 @@
-use mathlib.Core.Bool.{Bool, true, false, cond, not, _||_, _&&_}
-use mathlib.Core.List.{List, []}
-use Rattle.text.proofs.Lists.{told, tail-part}
+use mathlib.Core.List.{List}
 use Rattle.jsx.proofs.Fronts.{MembersLeft, member-seen, members-goes, members-over, members-never}
 use Rattle.commands.proofs.Lengths.{member-fits}
 use lib.ListN.{length-drop}
@@ -8,15 +6,12 @@ use Rattle.text.specs.declared.spans.Span.{Span}
 use Rattle.definitions.specs.Judging.{done}
 use Rattle.definitions.specs.Reading.{membersAt}
 use borrow.Author.Needs.{needs}
-use Prim.Native.Nat.{ℕ, suc, _≤_, _<_, _+_, _-_}
+use Prim.Native.Nat.{ℕ, _≤_, _-_}
 use native.Mathlib.Omega.{arith}
-use mathlib.Core.Path.{_≡_, refl, sym, ap, subst, _∙_}
-use lib.ListN.{length, getD, take, drop}
+use mathlib.Core.Path.{_≡_, refl}
+use lib.ListN.{length, drop}
 use Rattle.jsx.proofs.jsx_impl.skip_members.Statement.{statement}
 use Rattle.jsx.proofs.jsx_impl.skip_members.Tie as tie
-use Rattle.jsx.proofs.jsx_impl.skip_members.Reads as reads
-use Rattle.jsx.proofs.jsx_impl.skip_members.Lts as lts
-use Rattle.commands.proofs.root.member_command_at.Reads as member-command-at-reads
 
 abbrev Inv-loop : tie.InvT-loop
 Inv-loop tape from i₀ i = (i ≤ length tape) × ((f : ℕ) (text : List ℕ) (ms : List Span) (u : ℕ) → membersAt f text (drop from tape) ≡ done ms u → MembersLeft text tape from u i)

@@ -1,19 +1,12 @@
-use mathlib.Core.Bool.{Bool, true, false, cond, not, _||_, _&&_}
-use mathlib.Core.List.{List, []}
-use Rattle.text.proofs.Lists.{told, tail-part}
+use Rattle.text.proofs.Lists.{told}
 use Rattle.jsx.proofs.Fronts.{plain-name, namespaced-name, identifier-name, this-name, wrong-name, cut-name}
 use Rattle.commands.proofs.Lengths.{name-fits}
-use Prim.Native.Nat.{ℕ, suc, _≤_, _<_, _+_, _-_}
+use Prim.Native.Nat.{_-_}
 use native.Mathlib.Omega.{arith}
-use mathlib.Core.Path.{_≡_, refl, sym, ap, subst, _∙_}
-use lib.ListN.{length, getD, take, drop}
+use mathlib.Core.Path.{sym, _∙_}
 use borrow.Author.Needs.{needs}
 use Rattle.jsx.proofs.jsx_impl.skip_name.Statement.{statement}
 use Rattle.jsx.proofs.jsx_impl.skip_name.Tie as tie
-use Rattle.jsx.proofs.jsx_impl.skip_name.Reads as reads
-use Rattle.jsx.proofs.jsx_impl.skip_name.Lts as lts
-use Rattle.jsx.proofs.jsx_impl.skip_members.Reads as skip-members-reads
-use Rattle.commands.proofs.root.name_command_at.Reads as name-command-at-reads
 
 -- src/jsx_impl.rt:142:9
 name-command-at-requires : tie.Need-name-command-at-requires

@@ -1,19 +1,14 @@
-use mathlib.Core.Bool.{Bool, true, false, cond, not, _||_, _&&_}
-use mathlib.Core.List.{List, []}
 use Rattle.text.proofs.Lists.{told, tail-part}
 use Rattle.jsx.proofs.Spreading.{alone-end, alone-plain, alone-namespaced, alone-spread, alone-literal, alone-wrong, alone-cut}
 use Rattle.commands.proofs.Lengths.{attribute-fits}
 use lib.ListN.{length-drop}
-use Prim.Native.Nat.{ℕ, suc, _≤_, _<_, _+_, _-_}
+use Prim.Native.Nat.{_-_}
 use native.Mathlib.Omega.{arith}
-use mathlib.Core.Path.{_≡_, refl, sym, ap, subst, _∙_}
-use lib.ListN.{length, getD, take, drop}
+use mathlib.Core.Path.{ap}
+use lib.ListN.{length}
 use borrow.Author.Needs.{needs}
 use Rattle.jsx.proofs.jsx_impl.sole.Statement.{statement}
 use Rattle.jsx.proofs.jsx_impl.sole.Tie as tie
-use Rattle.jsx.proofs.jsx_impl.sole.Reads as reads
-use Rattle.jsx.proofs.jsx_impl.sole.Lts as lts
-use Rattle.commands.proofs.root.attribute_command_at.Reads as attribute-command-at-reads
 
 -- src/jsx_impl.rt:268:40
 sub-attribute-command-at : tie.Need-sub-attribute-command-at
