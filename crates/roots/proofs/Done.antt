@@ -1,6 +1,8 @@
 -- What a reading that is done says of its parts.
+--     checked-good                             a tape that was found good reads
 --     map-done, from-done, then-done           readings put together
 --     named-is-done, .., opened-is-done        what was judged at a command
+--     root-is-done                             the root
 --     properties-left-..                       the properties of a literal, one after the other
 -- Assumes nothing.
 use mathlib.Core.Path.{_≡_, refl, sym, ap, _∙_}
@@ -10,7 +12,7 @@ use Prim.Native.Nat.{ℕ, zero, suc, _+_, _≤_, _<_}
 use native.Mathlib.Omega.{arith}
 use lib.ListN.{length, drop, length-drop}
 use lib.Seq.{drop-drop}
-use lib.Dec.{eqb, leb}
+use lib.Dec.{eqb, leb, ltb}
 use borrow.Author.Tests.{eq-eqb, leb-false}
 use Rattle.text.proofs.Lists.{tail-part}
 use Rattle.text.specs.declared.spans.Span.{Span}
@@ -21,19 +23,28 @@ use Rattle.text.specs.Spans.{partOf, boundsOf}
 use Rattle.tape.specs.declared.refusal.Fault.{Fault}
 use Rattle.tape.specs.declared.refusal.Fault.the-variants as fault
 use Rattle.commands.specs.declared.root.Place.{Place}
+use Rattle.commands.specs.declared.root.HeritageCommand.{HeritageCommand}
+use Rattle.commands.specs.declared.root.HeritageCommand.the-variants as heritages
 use Rattle.commands.specs.declared.root.PropertyCommand.{PropertyCommand}
 use Rattle.commands.specs.declared.root.PropertyCommand.the-variants as properties
-use Rattle.commands.specs.Root.{propertyCommand}
+use Rattle.commands.specs.Root.{heritageCommand, propertyCommand}
 use Rattle.commands.specs.Sizes.{propertySize}
 use Rattle.commands.proofs.Lengths.{property-fits}
 use Rattle.definitions.specs.Judging.{Parsed, done, stop, _then_, map, from, spanned, named}
-use Rattle.definitions.specs.Tree.{Property, unnamed, propName}
-use Rattle.definitions.specs.Reading.{ampersand, lettered, opened, propertiesBy, propertiesAt}
+use Rattle.definitions.specs.Tree.{Property, unnamed, propName, Root}
+use Rattle.definitions.specs.Reading.{ampersand, lettered, opened, propertiesBy, propertiesAt, scopesAt, rootBy, whole, readRoot}
+use Rattle.roots.specs.declared.check.Checked.the-variants as checks
+use Rattle.roots.specs.Checking.{checked}
 use Rattle.roots.specs.InOrder.{Placed}
 use Rattle.roots.proofs.Behind.{part}
 
 never : {A : Type 0} → _≡_ {A = ℕ} 0 1 → A
 never z = absurd (omega arith)
+
+pub checked-good : {A : Type 0} (p : Parsed A) → checked p ≡ checks.Good → (a : A) × (u : ℕ) × (p ≡ done a u)
+unfolding checked
+checked-good (done a u) e = (a, u, refl)
+checked-good (stop f q) e = never cc
 
 -- ---- readings put together
 
@@ -96,6 +107,38 @@ opened-is-done d at p e =
     placed false true h i q = never cc
     placed false false h i q =
         record { line = λ k. let z : true ≡ false = sym (eq-eqb _ _ k) ∙ h in never cc; column = λ k. let z : true ≡ false = sym (eq-eqb _ _ k) ∙ i in never cc }
+
+-- ---- the root
+
+-- a root that was read begins with its heritage, and the rest of the tape reads as its scopes and node
+pub root-is-done : (text t : List ℕ) (r : Root) (u : ℕ) → readRoot text t ≡ done r u
+    → (w : ℕ) × (heritageCommand t ≡ heritages.Heritage (r .heritage))
+    × (scopesAt (suc (length t)) text false (drop 2 t) ≡ done (record { kinds = r .scopes; node = r .node }) w) × (u ≡ 2 + w)
+unfolding readRoot whole rootBy
+root-is-done text t r u e =
+    let x = then-done (rootBy t (heritageCommand t) (from 2 (scopesAt (suc (length t)) text false (drop 2 t)))) _ e in
+    let y = left-over (ltb (x .1) (length t)) (x .3) in
+    by-heritage (heritageCommand t) refl (x .2 ∙ y)
+  where
+    left-over : (b : Bool) {a : Root} {v : ℕ} → cond b (stop fault.Grammar v) (done a v) ≡ done r u → done a v ≡ done r u
+    left-over true e = never cc
+    left-over false e = e
+
+    by-heritage : (c : HeritageCommand) → heritageCommand t ≡ c
+        → rootBy t c (from 2 (scopesAt (suc (length t)) text false (drop 2 t))) ≡ done r u
+        → (w : ℕ) × (heritageCommand t ≡ heritages.Heritage (r .heritage))
+        × (scopesAt (suc (length t)) text false (drop 2 t) ≡ done (record { kinds = r .scopes; node = r .node }) w) × (u ≡ 2 + w)
+    by-heritage heritages.Wrong h e = never cc
+    by-heritage heritages.Cut h e = never cc
+    by-heritage heritages.Bad h e = never cc
+    by-heritage (heritages.Heritage k) h e =
+        let m = map-done _ (from 2 (scopesAt (suc (length t)) text false (drop 2 t))) e in
+        let n = from-done 2 (scopesAt (suc (length t)) text false (drop 2 t)) (m .2) in (
+          n .0,
+          h ∙ ap (λ (x : Root). heritages.Heritage (x .heritage)) (sym (m .1)),
+          n .2 ∙ ap (λ (x : Root). done (record { kinds = x .scopes; node = x .node }) (n .0)) (sym (m .1)),
+          n .1,
+        )
 
 -- ---- the properties of a literal, one after the other
 

@@ -3,7 +3,7 @@
 --     Reads                  the claim, of a reading
 --     reads-done             what it says of a tree and the bytes that it took
 --     members-reads, ..      each reader
---     root-whole             a root takes the whole tape
+--     root-in-order          a root is in order, and takes the whole tape
 -- Assumes nothing.
 use mathlib.Core.Path.{_≡_, refl, sym, subst, _∙_}
 use mathlib.Core.Bool.{Bool, true, false, cond, _||_}
