@@ -4,3 +4,6 @@ pub mod Turns
 pub mod Fronts
 pub mod Spreading
 pub mod Lowerings
+pub mod Attributing
+pub mod Calling
+pub mod Parenting

@@ -1,8 +1,5 @@
 // The parts of a root's tree (jsx_impl.rs) that hold no element. A tape that does not read gives nothing of use: it has been refused before.
 ghost use mathlib.Core.Path.{_≡_};
-ghost use mathlib.Core.Bool.{true, false, cond, _&&_};
-ghost use mathlib.Core.List.{List, _++_};
-ghost use Prim.Native.Nat.{ℕ, _+_, _≤_, _<_, _^_};
 ghost use lib.Dec.{eqb};
 ghost use lib.ListN.{length, drop};
 ghost use Rattle.text.specs.declared.bytes.Found.the-variants.{Nothing};
@@ -10,14 +7,20 @@ ghost use Rattle.text.specs.declared.spans.Span as spans;
 ghost use Rattle.text.specs.Spans.{partOf};
 ghost use Rattle.text.specs.Utf8.{firstIll};
 ghost use Rattle.definitions.specs.Judging.{done};
-ghost use Rattle.definitions.specs.Tree.{Name, Property, Attributes, Value, Children};
-ghost use Rattle.definitions.specs.Reading.{membersAt, nameAt, propertiesAt, attributesAt, valueAt};
 ghost use Rattle.definitions.specs.Lowering as lowering;
-ghost use Rattle.definitions.specs.Lowering.{Context, Output, isKey, hasValue, keyNotice, keyAfterSpread, classicElement, formOf, lowerLiteral, selfOutput, sourceOutput};
-ghost use Rattle.emit.specs.Emitting.{Noticed};
-ghost use Rattle.jsx.specs.Parts.{SoleAt, IsText, TextWritten, LiteralWritten, someOutput, Alone, LoneWithin, FrontWithin, FrontIs};
 ghost use Rattle.roots.specs.InOrder.{Inside};
 ghost use Rattle.commands.specs.declared.root.Place as places;
+ghost use mathlib.Core.Bool.{Bool, true, false, cond, _||_, _&&_};
+ghost use mathlib.Core.List.{List, [], _∷_, _++_};
+ghost use Prim.Native.Nat.{ℕ, suc, _+_, _≤_, _<_, _^_};
+ghost use Rattle.definitions.specs.Calls as call;
+ghost use Rattle.definitions.specs.Tree.{Name, Property, Root, Node, Attributes, Value, Children};
+ghost use Rattle.definitions.specs.Reading.{membersAt, nameAt, propertiesAt, elementAt, fragmentAt, attributesAt, valueAt, childrenAt, readRoot};
+ghost use Rattle.definitions.specs.Lowering.{Context, Output, put, putOver, isKey, hasValue, hasProto, keyNotice, attributeName, keyAfterSpread, classicElement, survivors, hasSpread, formOf, childrenProperty, lowerLiteral, lowerText, objectOf, loneSpreadOr, selfOutput, sourceOutput, noKey, classicCall, automaticCall, lowerNode, lowerAttributes, lowerKey, lowerValue, lowerChildren, lowerName, lowerRoot, someLine};
+ghost use Rattle.definitions.specs.JsxText.{jsxText};
+ghost use Rattle.emit.specs.Emitting.{Called, Noticed, Produced};
+ghost use Rattle.emit.specs.Heads.{NodeAt};
+ghost use Rattle.jsx.specs.Parts.{context, Written, Countable, Moves, ChildStep, ChildrenWritten, AttributeStep, AttributesWritten, KeyAt, Parts, SoleAt, IsText, TextWritten, LiteralWritten, someOutput, childrenObject, automaticElement, classicProperties, classicCallOf, classicFragment, automaticFragment, Alone, LoneWithin, FrontWithin, FrontIs};
 use commands::root::AttributeCommand;
 use commands::root::MemberCommand;
 use commands::root::NameCommand;
@@ -42,6 +45,26 @@ use text::spans::Bounds;
 use text::spans::Span;
 use text::spans::part;
 use text::spans::span_bounds;
+use emit::jsx_impl::automatic_name;
+use emit::jsx_impl::closing;
+use emit::jsx_impl::get_attribute_name;
+use emit::jsx_impl::get_fragment;
+use emit::jsx_impl::no_key;
+use emit::jsx_impl::put_namespaced;
+use emit::jsx_impl::put_string;
+use emit::jsx_impl::static_children;
+use emit::jsx_impl::transform_element_name;
+use emit::jsx_self::root_head;
+use emit::jsx_self::self_output;
+use emit::jsx_source::source_output;
+use emit::pen::put_bare;
+use emit::pen::put_byte;
+use emit::pen::put_over;
+use commands::root::ChildCommand;
+use commands::root::ScopeCommand;
+use commands::root::Place;
+use commands::root::child_command_at;
+use commands::root::scope_command_at;
 
 // A tree was lowered: where writing goes on, and how many bytes of the tape it took.
 pub struct Lowered {
@@ -447,4 +470,433 @@ fn transform_jsx_text(text: &[u8], span: Span, calls: &mut [u8], pen: Pen) -> It
         Bounds::Empty => text_lines(text, span, calls, pen),
         Bounds::Good => text_lines(text, span, calls, pen),
     }
+}
+
+// ---- the recursion
+
+// A value of an attribute.
+fn transform_jsx_attribute_value(text: &[u8], settings: Settings, allowed: bool, tape: &[u8], calls: &mut [u8], notices: &mut [u8], pen: Pen) -> Lowered
+    requires { ⌜ length (now text) ≤ 65535 ⌝ }
+    requires { ⌜ firstIll (now text) ≡ Nothing ⌝ }
+    ensures { λ r. ⌜ r .used ≤ length (now (tape .entry)) ⌝ }
+    ensures { λ r. ⌜ ((f d : ℕ) (v : Value) (u : ℕ) → length (now (tape .entry)) < f → valueAt f (now (text .entry)) d (now (tape .entry)) ≡ done v u →
+        Written (lowerValue (context (now (text .entry)) settings allowed) v) u (now (calls .entry)) (now (calls .exit)) (now (notices .entry)) (now (notices .exit)) pen (r .pen) (r .used)) ⌝ }
+{
+    let command = value_command_at(tape);
+    match command {
+        ValueCommand::Absent => {
+            let end = put_bare(calls, pen, 0x90);
+            Lowered { pen: end, used: 1 }
+        }
+        ValueCommand::Text(span) => {
+            let end = put_string(calls, pen, span);
+            Lowered { pen: end, used: 5 }
+        }
+        ValueCommand::Expression(e) => {
+            let end = put_over(calls, pen, 0x94, e);
+            Lowered { pen: end, used: 3 }
+        }
+        ValueCommand::Empty => {
+            let end = put_bare(calls, pen, 0x90);
+            Lowered { pen: end, used: 1 }
+        }
+        ValueCommand::Element(place) => {
+            let node = transform_jsx(text, settings, allowed, &tape[9..], place, calls, notices, pen);
+            let end = node.pen;
+            Lowered { pen: end, used: 9 + node.used }
+        }
+        ValueCommand::Fragment(_) => {
+            let node = transform_fragment(text, settings, allowed, &tape[9..], calls, notices, pen);
+            let end = node.pen;
+            Lowered { pen: end, used: 9 + node.used }
+        }
+        ValueCommand::Wrong => Lowered { pen: pen, used: 0 },
+        ValueCommand::Cut => Lowered { pen: pen, used: 0 },
+    }
+}
+
+// An attribute whose name is written: its value, behind n bytes.
+fn value_behind(text: &[u8], settings: Settings, allowed: bool, tape: &[u8], n: usize, calls: &mut [u8], notices: &mut [u8], pen: Pen, key: usize) -> Props
+    requires { ⌜ length (now text) ≤ 65535 ⌝ }
+    requires { ⌜ firstIll (now text) ≡ Nothing ⌝ }
+    requires { ⌜ (1 ≤ n) × (n ≤ length (now tape)) ⌝ }
+    ensures { λ r. ⌜ (r .key ≡ key) × (r .some ≡ true) × (r .last ≡ false) × (n ≤ r .used) × (r .used ≤ length (now (tape .entry))) ⌝ }
+    ensures { λ r. ⌜ ((f d : ℕ) (v : Value) (u : ℕ) → length (now (tape .entry)) ≤ f → valueAt f (now (text .entry)) d (drop n (now (tape .entry))) ≡ done v u →
+        Written (lowerValue (context (now (text .entry)) settings allowed) v) (n + u) (now (calls .entry)) (now (calls .exit)) (now (notices .entry)) (now (notices .exit)) pen (r .pen) (r .used)) ⌝ }
+{
+    let value = transform_jsx_attribute_value(text, settings, allowed, &tape[n..], calls, notices, pen);
+    let end = value.pen;
+    Props {
+        pen: end,
+        used: n + value.used,
+        last: false,
+        some: true,
+        key: key,
+    }
+}
+
+// A plain attribute that becomes a property.
+fn plain(text: &[u8], settings: Settings, allowed: bool, tape: &[u8], span: Span, calls: &mut [u8], notices: &mut [u8], pen: Pen, key: usize) -> Props
+    requires { ⌜ length (now text) ≤ 65535 ⌝ }
+    requires { ⌜ firstIll (now text) ≡ Nothing ⌝ }
+    requires { ⌜ 5 ≤ length (now tape) ⌝ }
+    ensures { λ r. ⌜ (r .key ≡ key) × (r .some ≡ true) × (r .last ≡ false) × (5 ≤ r .used) × (r .used ≤ length (now (tape .entry))) ⌝ }
+    ensures { λ r. ⌜ ((f d : ℕ) (v : Value) (u : ℕ) → length (now (tape .entry)) ≤ f → valueAt f (now (text .entry)) d (drop 5 (now (tape .entry))) ≡ done v u →
+        Written (keyNotice (context (now (text .entry)) settings allowed) span v ++ attributeName (context (now (text .entry)) settings allowed) span ++ lowerValue (context (now (text .entry)) settings allowed) v)
+        (5 + u) (now (calls .entry)) (now (calls .exit)) (now (notices .entry)) (now (notices .exit)) pen (r .pen) (r .used)) ⌝ }
+{
+    let told = key_notice(text, span, &tape[5..], notices, pen);
+    let named = get_attribute_name(text, calls, told, span);
+    value_behind(text, settings, allowed, tape, 5, calls, notices, named, key)
+}
+
+// The attribute at the front. In an automatic call a key with a value is no property: its place is told.
+fn attribute(text: &[u8], settings: Settings, allowed: bool, classic: bool, tape: &[u8], calls: &mut [u8], notices: &mut [u8], pen: Pen) -> Props
+    requires { ⌜ length (now text) ≤ 65535 ⌝ }
+    requires { ⌜ firstIll (now text) ≡ Nothing ⌝ }
+    ensures { λ r. ⌜ Moves (length (now (tape .entry))) (r .used) (r .last) × (r .key ≤ r .used) ⌝ }
+    ensures { λ r. ⌜ ((f d : ℕ) (a : Attributes) (u : ℕ) → length (now (tape .entry)) < f → attributesAt f (now (text .entry)) d (now (tape .entry)) ≡ done a u →
+        AttributeStep (context (now (text .entry)) settings allowed) classic d (now (tape .entry)) (now (calls .entry)) (now (calls .exit)) (now (notices .entry)) (now (notices .exit)) pen r f a u) ⌝ }
+{
+    let command = attribute_command_at(tape);
+    match command {
+        AttributeCommand::Plain(span) => {
+            if is_valued_key(text, span, &tape[5..]) {
+                if classic {
+                    return plain(text, settings, allowed, tape, span, calls, notices, pen, 5);
+                }
+                return passed(pen, 5 + skip_value(&tape[5..]), 5);
+            }
+            plain(text, settings, allowed, tape, span, calls, notices, pen, 0)
+        }
+        AttributeCommand::Namespaced(namespace, name) => {
+            let named = put_bare(calls, pen, 0x84);
+            let begun = put_namespaced(calls, named, namespace, name);
+            value_behind(text, settings, allowed, tape, 9, calls, notices, begun, 0)
+        }
+        AttributeCommand::Spread(e) => {
+            let end = put_over(calls, pen, 0x86, e);
+            Props { pen: end, used: 3, last: false, some: true, key: 0 }
+        }
+        AttributeCommand::Literal(e) => literal_attribute(text, tape, calls, pen, e),
+        AttributeCommand::End => Props { pen: pen, used: 1, last: true, some: false, key: 0 },
+        AttributeCommand::Wrong => Props { pen: pen, used: 0, last: true, some: false, key: 0 },
+        AttributeCommand::Cut => Props { pen: pen, used: 0, last: true, some: false, key: 0 },
+    }
+}
+
+// The attributes up to the 1e.
+fn attributes(text: &[u8], settings: Settings, allowed: bool, classic: bool, tape: &[u8], calls: &mut [u8], notices: &mut [u8], pen: Pen) -> Props
+    requires { ⌜ length (now text) ≤ 65535 ⌝ }
+    requires { ⌜ firstIll (now text) ≡ Nothing ⌝ }
+    ensures { λ r. ⌜ (r .used ≤ length (now (tape .entry))) × (r .key ≤ length (now (tape .entry))) ⌝ }
+    ensures { λ r. ⌜ ((f d : ℕ) (a : Attributes) (u : ℕ) → length (now (tape .entry)) < f → attributesAt f (now (text .entry)) d (now (tape .entry)) ≡ done a u →
+        AttributesWritten (context (now (text .entry)) settings allowed) classic d (now (tape .entry)) a u (now (calls .entry)) (now (calls .exit)) (now (notices .entry)) (now (notices .exit)) pen r) ⌝ }
+{
+    let mut i: usize = 0;
+    let mut next = pen;
+    let mut some = false;
+    let mut key: usize = 0;
+    loop {
+        let step = attribute(text, settings, allowed, classic, &tape[i..], calls, notices, next);
+        next = step.pen;
+        key = newer(i, step.key, key);
+        some = some | step.some;
+        i = i + step.used;
+        if step.last {
+            return Props { pen: next, used: i, last: true, some: some, key: key };
+        }
+    }
+}
+
+// The child at the front.
+fn transform_jsx_child(text: &[u8], settings: Settings, allowed: bool, tape: &[u8], calls: &mut [u8], notices: &mut [u8], pen: Pen) -> Items
+    requires { ⌜ length (now text) ≤ 65535 ⌝ }
+    requires { ⌜ firstIll (now text) ≡ Nothing ⌝ }
+    ensures { λ r. ⌜ Moves (length (now (tape .entry))) (r .used) (r .last) × (r .count ≤ r .used) ⌝ }
+    ensures { λ r. ⌜ ((f d : ℕ) (k : Children) (u : ℕ) → length (now (tape .entry)) < f → childrenAt f (now (text .entry)) d (now (tape .entry)) ≡ done k u →
+        ChildStep (context (now (text .entry)) settings allowed) d (now (tape .entry)) (now (calls .entry)) (now (calls .exit)) (now (notices .entry)) (now (notices .exit)) pen r f k u) ⌝ }
+{
+    let command = child_command_at(tape);
+    match command {
+        ChildCommand::Text(span) => transform_jsx_text(text, span, calls, pen),
+        ChildCommand::Expression(e) => {
+            let end = put_over(calls, pen, 0x94, e);
+            Items { pen: end, used: 3, last: false, count: 1, spread: false }
+        }
+        ChildCommand::Empty => Items { pen: pen, used: 1, last: false, count: 0, spread: false },
+        ChildCommand::Spread(e) => {
+            let end = put_over(calls, pen, 0x9c, e);
+            Items { pen: end, used: 3, last: false, count: 1, spread: true }
+        }
+        ChildCommand::Element(place) => {
+            let node = transform_jsx(text, settings, allowed, &tape[9..], place, calls, notices, pen);
+            let end = node.pen;
+            Items { pen: end, used: 9 + node.used, last: false, count: 1, spread: false }
+        }
+        ChildCommand::Fragment(_) => {
+            let node = transform_fragment(text, settings, allowed, &tape[9..], calls, notices, pen);
+            let end = node.pen;
+            Items { pen: end, used: 9 + node.used, last: false, count: 1, spread: false }
+        }
+        ChildCommand::End => Items { pen: pen, used: 1, last: true, count: 0, spread: false },
+        ChildCommand::Wrong => Items { pen: pen, used: 0, last: true, count: 0, spread: false },
+        ChildCommand::Cut => Items { pen: pen, used: 0, last: true, count: 0, spread: false },
+    }
+}
+
+// The children up to the 1f.
+fn children(text: &[u8], settings: Settings, allowed: bool, tape: &[u8], calls: &mut [u8], notices: &mut [u8], pen: Pen) -> Items
+    requires { ⌜ length (now text) ≤ 65535 ⌝ }
+    requires { ⌜ firstIll (now text) ≡ Nothing ⌝ }
+    ensures { λ r. ⌜ (r .used ≤ length (now (tape .entry))) × (r .count ≤ length (now (tape .entry))) ⌝ }
+    ensures { λ r. ⌜ ((f d : ℕ) (k : Children) (u : ℕ) → length (now (tape .entry)) < f → childrenAt f (now (text .entry)) d (now (tape .entry)) ≡ done k u →
+        ChildrenWritten (context (now (text .entry)) settings allowed) k (lowerChildren (context (now (text .entry)) settings allowed) k) u (now (calls .entry)) (now (calls .exit)) (now (notices .entry)) (now (notices .exit)) pen r) ⌝ }
+{
+    let mut i: usize = 0;
+    let mut next = pen;
+    let mut count: usize = 0;
+    let mut spread = false;
+    loop {
+        let step = transform_jsx_child(text, settings, allowed, &tape[i..], calls, notices, next);
+        next = step.pen;
+        count = count + step.count;
+        spread = spread | step.spread;
+        i = i + step.used;
+        if step.last {
+            return Items { pen: next, used: i, last: true, count: count, spread: spread };
+        }
+    }
+}
+
+// The children of an automatic call and the end of its object. Where no child survives, the object's end takes the place of the children's begin.
+fn child_object(text: &[u8], settings: Settings, allowed: bool, tape: &[u8], calls: &mut [u8], notices: &mut [u8], pen: Pen) -> Items
+    requires { ⌜ length (now text) ≤ 65535 ⌝ }
+    requires { ⌜ firstIll (now text) ≡ Nothing ⌝ }
+    ensures { λ r. ⌜ (r .used ≤ length (now (tape .entry))) × (r .count ≤ length (now (tape .entry))) ⌝ }
+    ensures { λ r. ⌜ ((f d : ℕ) (k : Children) (u : ℕ) → length (now (tape .entry)) < f → childrenAt f (now (text .entry)) d (now (tape .entry)) ≡ done k u →
+        ChildrenWritten (context (now (text .entry)) settings allowed) k (childrenObject (context (now (text .entry)) settings allowed) k) u (now (calls .entry)) (now (calls .exit)) (now (notices .entry)) (now (notices .exit)) pen r) ⌝ }
+{
+    let begun = put_bare(calls, pen, 0x9a);
+    let items = children(text, settings, allowed, tape, calls, notices, begun);
+    let used = items.used;
+    let count = items.count;
+    let spread = items.spread;
+    if count == 0 {
+        let none = put_bare(calls, pen, 0x82);
+        return Items { pen: none, used: used, last: true, count: count, spread: spread };
+    }
+    let inside = items.pen;
+    let formed = put_byte(calls, inside, 0x9b, children_form(count, spread));
+    let end = put_bare(calls, formed, 0x82);
+    Items { pen: end, used: used, last: true, count: count, spread: spread }
+}
+
+// The value of the last key, which stands at `key`, or what stands for none.
+fn key_value(text: &[u8], settings: Settings, allowed: bool, tape: &[u8], key: usize, calls: &mut [u8], notices: &mut [u8], pen: Pen) -> Pen
+    requires { ⌜ length (now text) ≤ 65535 ⌝ }
+    requires { ⌜ firstIll (now text) ≡ Nothing ⌝ }
+    requires { ⌜ key ≤ length (now tape) ⌝ }
+    ensures { λ r. ⌜ ((d : ℕ) (os : List Output) → KeyAt (context (now (text .entry)) settings allowed) d (now (tape .entry)) (noKey (context (now (text .entry)) settings allowed)) key os →
+        Produced os (now (calls .entry)) (now (calls .exit)) (now (notices .entry)) (now (notices .exit)) pen r) ⌝ }
+{
+    if key == 0 {
+        return no_key(settings, calls, pen);
+    }
+    let begun = put_bare(calls, pen, 0x9d);
+    let value = transform_jsx_attribute_value(text, settings, allowed, &tape[key..], calls, notices, begun);
+    value.pen
+}
+
+// An automatic call of an element whose name takes `at` bytes.
+fn automatic_call(text: &[u8], settings: Settings, allowed: bool, tape: &[u8], at: usize, place: Place, calls: &mut [u8], notices: &mut [u8], pen: Pen) -> Lowered
+    requires { ⌜ length (now text) ≤ 65535 ⌝ }
+    requires { ⌜ firstIll (now text) ≡ Nothing ⌝ }
+    requires { ⌜ at ≤ length (now tape) ⌝ }
+    ensures { λ r. ⌜ r .used ≤ length (now (tape .entry)) ⌝ }
+    ensures { λ r. ⌜ ((d f : ℕ) (n : Name) (a : Attributes) (v : ℕ) (k : Children) (w : ℕ) → Parts (now (text .entry)) d (now (tape .entry)) f at n a v k w → Countable place →
+        Written (automaticElement (context (now (text .entry)) settings allowed) place n a k) (at + v + w) (now (calls .entry)) (now (calls .exit)) (now (notices .entry)) (now (notices .exit)) pen (r .pen) (r .used)) ⌝ }
+{
+    let begun = put_byte(calls, pen, 0x80, 1);
+    let object = put_bare(calls, begun, 0x81);
+    let props = attributes(text, settings, allowed, false, &tape[at..], calls, notices, object);
+    let inside = props.pen;
+    let from = at + props.used;
+    let items = child_object(text, settings, allowed, &tape[from..], calls, notices, inside);
+    let ended = items.pen;
+    let count = items.count;
+    let keyed = key_value(text, settings, allowed, &tape[at..], props.key, calls, notices, ended);
+    let counted = static_children(settings, calls, keyed, count);
+    let sourced = source_output(settings, calls, counted, place);
+    let added = self_output(settings, allowed, calls, sourced);
+    let tagged = put_bare(calls, added, 0x9e);
+    let named = transform_element_name(settings, tape, calls, notices, tagged);
+    let end = closing(settings, calls, named, automatic_name(settings, count));
+    Lowered { pen: end, used: from + items.used }
+}
+
+// The object of a classic call, or null in its place where there is no property.
+fn object_or_null(text: &[u8], settings: Settings, allowed: bool, tape: &[u8], place: Place, calls: &mut [u8], notices: &mut [u8], pen: Pen) -> Lowered
+    requires { ⌜ length (now text) ≤ 65535 ⌝ }
+    requires { ⌜ firstIll (now text) ≡ Nothing ⌝ }
+    ensures { λ r. ⌜ r .used ≤ length (now (tape .entry)) ⌝ }
+    ensures { λ r. ⌜ ((d f : ℕ) (a : Attributes) (u : ℕ) → length (now (tape .entry)) < f → attributesAt f (now (text .entry)) d (now (tape .entry)) ≡ done a u → Countable place →
+        Written (objectOf (classicProperties (context (now (text .entry)) settings allowed) place a)) u (now (calls .entry)) (now (calls .exit)) (now (notices .entry)) (now (notices .exit)) pen (r .pen) (r .used)) ⌝ }
+{
+    let begun = put_bare(calls, pen, 0x81);
+    let props = attributes(text, settings, allowed, true, tape, calls, notices, begun);
+    let inside = props.pen;
+    let used = props.used;
+    let added = self_output(settings, allowed, calls, inside);
+    let sourced = source_output(settings, calls, added, place);
+    if has_more(settings, allowed, props.some) {
+        let end = put_bare(calls, sourced, 0x82);
+        return Lowered { pen: end, used: used };
+    }
+    let null = put_bare(calls, pen, 0x88);
+    Lowered { pen: null, used: used }
+}
+
+// The argument of a classic call behind the tag: a sole spread, an object or null.
+fn argument(text: &[u8], settings: Settings, allowed: bool, tape: &[u8], place: Place, calls: &mut [u8], notices: &mut [u8], pen: Pen) -> Lowered
+    requires { ⌜ length (now text) ≤ 65535 ⌝ }
+    requires { ⌜ firstIll (now text) ≡ Nothing ⌝ }
+    ensures { λ r. ⌜ r .used ≤ length (now (tape .entry)) ⌝ }
+    ensures { λ r. ⌜ ((d f : ℕ) (a : Attributes) (u : ℕ) → length (now (tape .entry)) < f → attributesAt f (now (text .entry)) d (now (tape .entry)) ≡ done a u → Countable place →
+        Written (loneSpreadOr (context (now (text .entry)) settings allowed) a (objectOf (classicProperties (context (now (text .entry)) settings allowed) place a))) u (now (calls .entry)) (now (calls .exit)) (now (notices .entry)) (now (notices .exit)) pen (r .pen) (r .used)) ⌝ }
+{
+    let lone = lone_spread(text, settings, tape);
+    match lone {
+        Lone::Sole(e, used) => {
+            let end = put_over(calls, pen, 0x89, e);
+            Lowered { pen: end, used: used }
+        }
+        Lone::Object => object_or_null(text, settings, allowed, tape, place, calls, notices, pen),
+    }
+}
+
+// A classic call of an element whose name takes `at` bytes.
+fn classic_call(text: &[u8], settings: Settings, allowed: bool, tape: &[u8], at: usize, place: Place, calls: &mut [u8], notices: &mut [u8], pen: Pen) -> Lowered
+    requires { ⌜ length (now text) ≤ 65535 ⌝ }
+    requires { ⌜ firstIll (now text) ≡ Nothing ⌝ }
+    requires { ⌜ at ≤ length (now tape) ⌝ }
+    ensures { λ r. ⌜ r .used ≤ length (now (tape .entry)) ⌝ }
+    ensures { λ r. ⌜ ((d f : ℕ) (n : Name) (a : Attributes) (v : ℕ) (k : Children) (w : ℕ) → Parts (now (text .entry)) d (now (tape .entry)) f at n a v k w → Countable place →
+        Written (classicCallOf (context (now (text .entry)) settings allowed) place n a k) (at + v + w) (now (calls .entry)) (now (calls .exit)) (now (notices .entry)) (now (notices .exit)) pen (r .pen) (r .used)) ⌝ }
+{
+    let begun = put_byte(calls, pen, 0x80, 0);
+    let first = argument(text, settings, allowed, &tape[at..], place, calls, notices, begun);
+    let inside = first.pen;
+    let from = at + first.used;
+    let items = children(text, settings, allowed, &tape[from..], calls, notices, inside);
+    let filled = items.pen;
+    let tagged = put_bare(calls, filled, 0x9e);
+    let named = transform_element_name(settings, tape, calls, notices, tagged);
+    let end = closing(settings, calls, named, 1);
+    Lowered { pen: end, used: from + items.used }
+}
+
+// An element behind its 10 and place.
+fn transform_jsx(text: &[u8], settings: Settings, allowed: bool, tape: &[u8], place: Place, calls: &mut [u8], notices: &mut [u8], pen: Pen) -> Lowered
+    requires { ⌜ length (now text) ≤ 65535 ⌝ }
+    requires { ⌜ firstIll (now text) ≡ Nothing ⌝ }
+    ensures { λ r. ⌜ r .used ≤ length (now (tape .entry)) ⌝ }
+    ensures { λ r. ⌜ ((f d : ℕ) (n : Node) (u : ℕ) → suc (length (now (tape .entry))) < f → elementAt f (now (text .entry)) d place (now (tape .entry)) ≡ done n u → Countable place →
+        Written (lowerNode (context (now (text .entry)) settings allowed) n) u (now (calls .entry)) (now (calls .exit)) (now (notices .entry)) (now (notices .exit)) pen (r .pen) (r .used)) ⌝ }
+{
+    let at = skip_name(tape);
+    if is_classic_element(text, settings, &tape[at..]) {
+        return classic_call(text, settings, allowed, tape, at, place, calls, notices, pen);
+    }
+    automatic_call(text, settings, allowed, tape, at, place, calls, notices, pen)
+}
+
+// A fragment behind its 11 and place.
+fn transform_fragment(text: &[u8], settings: Settings, allowed: bool, tape: &[u8], calls: &mut [u8], notices: &mut [u8], pen: Pen) -> Lowered
+    requires { ⌜ length (now text) ≤ 65535 ⌝ }
+    requires { ⌜ firstIll (now text) ≡ Nothing ⌝ }
+    ensures { λ r. ⌜ r .used ≤ length (now (tape .entry)) ⌝ }
+    ensures { λ r. ⌜ ((f d : ℕ) (place : places.Place) (n : Node) (u : ℕ) → suc (length (now (tape .entry))) < f → fragmentAt f (now (text .entry)) d place (now (tape .entry)) ≡ done n u →
+        Written (lowerNode (context (now (text .entry)) settings allowed) n) u (now (calls .entry)) (now (calls .exit)) (now (notices .entry)) (now (notices .exit)) pen (r .pen) (r .used)) ⌝ }
+{
+    let mode = settings.mode;
+    if is_classic(mode) {
+        return bare_classic(text, settings, allowed, tape, calls, notices, pen);
+    }
+    bare_automatic(text, settings, allowed, tape, calls, notices, pen)
+}
+
+fn bare_classic(text: &[u8], settings: Settings, allowed: bool, tape: &[u8], calls: &mut [u8], notices: &mut [u8], pen: Pen) -> Lowered
+    requires { ⌜ length (now text) ≤ 65535 ⌝ }
+    requires { ⌜ firstIll (now text) ≡ Nothing ⌝ }
+    ensures { λ r. ⌜ r .used ≤ length (now (tape .entry)) ⌝ }
+    ensures { λ r. ⌜ ((f d : ℕ) (k : Children) (u : ℕ) → length (now (tape .entry)) < f → childrenAt f (now (text .entry)) d (now (tape .entry)) ≡ done k u →
+        Written (classicFragment (context (now (text .entry)) settings allowed) k) u (now (calls .entry)) (now (calls .exit)) (now (notices .entry)) (now (notices .exit)) pen (r .pen) (r .used)) ⌝ }
+{
+    let begun = put_byte(calls, pen, 0x80, 0);
+    let null = put_bare(calls, begun, 0x88);
+    let items = children(text, settings, allowed, tape, calls, notices, null);
+    let filled = items.pen;
+    let tagged = put_bare(calls, filled, 0x9e);
+    let mode = settings.mode;
+    let named = get_fragment(mode, calls, tagged);
+    let end = closing(settings, calls, named, 1);
+    Lowered { pen: end, used: items.used }
+}
+
+fn bare_automatic(text: &[u8], settings: Settings, allowed: bool, tape: &[u8], calls: &mut [u8], notices: &mut [u8], pen: Pen) -> Lowered
+    requires { ⌜ length (now text) ≤ 65535 ⌝ }
+    requires { ⌜ firstIll (now text) ≡ Nothing ⌝ }
+    ensures { λ r. ⌜ r .used ≤ length (now (tape .entry)) ⌝ }
+    ensures { λ r. ⌜ ((f d : ℕ) (k : Children) (u : ℕ) → length (now (tape .entry)) < f → childrenAt f (now (text .entry)) d (now (tape .entry)) ≡ done k u →
+        Written (automaticFragment (context (now (text .entry)) settings allowed) k) u (now (calls .entry)) (now (calls .exit)) (now (notices .entry)) (now (notices .exit)) pen (r .pen) (r .used)) ⌝ }
+{
+    let begun = put_byte(calls, pen, 0x80, 1);
+    let object = put_bare(calls, begun, 0x81);
+    let items = child_object(text, settings, allowed, tape, calls, notices, object);
+    let ended = items.pen;
+    let count = items.count;
+    let keyed = no_key(settings, calls, ended);
+    let counted = static_children(settings, calls, keyed, count);
+    let tagged = put_bare(calls, counted, 0x9e);
+    let mode = settings.mode;
+    let named = get_fragment(mode, calls, tagged);
+    let end = closing(settings, calls, named, automatic_name(settings, count));
+    Lowered { pen: end, used: items.used }
+}
+
+// The element or fragment that stands at the front of what follows a root's scopes.
+fn transform_root(text: &[u8], settings: Settings, allowed: bool, tape: &[u8], calls: &mut [u8], notices: &mut [u8], pen: Pen) -> Pen
+    requires { ⌜ length (now text) ≤ 65535 ⌝ }
+    requires { ⌜ firstIll (now text) ≡ Nothing ⌝ }
+    ensures { λ r. ⌜ ((n : Node) → NodeAt (now (text .entry)) (now (tape .entry)) n →
+        Produced (lowerNode (context (now (text .entry)) settings allowed) n) (now (calls .entry)) (now (calls .exit)) (now (notices .entry)) (now (notices .exit)) pen r) ⌝ }
+{
+    let command = scope_command_at(true, tape);
+    match command {
+        ScopeCommand::Element(place) => {
+            let node = transform_jsx(text, settings, allowed, &tape[9..], place, calls, notices, pen);
+            node.pen
+        }
+        ScopeCommand::Fragment(_) => {
+            let node = transform_fragment(text, settings, allowed, &tape[9..], calls, notices, pen);
+            node.pen
+        }
+        ScopeCommand::Scope(_) => pen,
+        ScopeCommand::Wrong => pen,
+        ScopeCommand::Cut => pen,
+        ScopeCommand::Bad => pen,
+    }
+}
+
+// A root that was checked: its calls and notices are written. From targets that are empty it counts.
+pub fn lower(text: &[u8], settings: Settings, tape: &[u8], calls: &mut [u8], notices: &mut [u8], pen: Pen) -> Pen
+    requires { ⌜ length (now text) ≤ 65535 ⌝ }
+    requires { ⌜ firstIll (now text) ≡ Nothing ⌝ }
+    ensures { λ r. ⌜ ((o : Root) (u : ℕ) → readRoot (now (text .entry)) (now (tape .entry)) ≡ done o u →
+        Produced (lowerRoot (now (text .entry)) settings o) (now (calls .entry)) (now (calls .exit)) (now (notices .entry)) (now (notices .exit)) pen r) ⌝ }
+{
+    let head = root_head(tape);
+    let at = head.used;
+    transform_root(text, settings, head.allowed, &tape[at..], calls, notices, pen)
 }

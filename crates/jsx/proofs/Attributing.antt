@@ -1,0 +1,2 @@
+-- Attributes and keys written one at a time.
+-- Assumes nothing.

@@ -1,0 +1,2 @@
+-- Whole calls of elements and fragments, from their parts.
+-- Assumes nothing.

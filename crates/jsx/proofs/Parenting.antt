@@ -1,0 +1,2 @@
+-- Values and children written one at a time.
+-- Assumes nothing.
