@@ -76,15 +76,15 @@ pub record Moves (len n : ℕ) (last : Bool) : Type 0 where
 
 -- ---- children
 
-abbrev pub ChildrenEnd : Context → Children → Type 0
-ChildrenEnd c k = (survivors c k ≡ 0) × (hasSpread k ≡ false)
+abbrev pub ChildrenEnd : Context → Items → Children → Type 0
+ChildrenEnd c r k = (survivors c k ≡ 0) × (hasSpread k ≡ false) × (r .count ≡ 0) × (r .spread ≡ false)
 
 abbrev pub ChildrenGo : Context → Items → List ℕ → ℕ → Children → Children → Type 0
 ChildrenGo c r t f k l = (survivors c k ≡ r .count + survivors c l) × (hasSpread k ≡ (r .spread || hasSpread l))
 
 abbrev pub ChildStep : Context → ℕ → List ℕ → List ℕ → List ℕ → List ℕ → List ℕ → Pen → Items → ℕ → Children → ℕ → Type 0
 ChildStep c d t cs cs′ ns ns′ p r f k u =
-    Step (λ g l. childrenAt g (c .text) d l) (lowerChildren c) (ChildrenEnd c) (ChildrenGo c r) t cs cs′ ns ns′ p (r .pen) (r .used) (r .last) f k u
+    Step (λ g l. childrenAt g (c .text) d l) (lowerChildren c) (ChildrenEnd c r) (ChildrenGo c r) t cs cs′ ns ns′ p (r .pen) (r .used) (r .last) f k u
 
 pub record ChildrenWritten (c : Context) (k : Children) (os : List Output) (u : ℕ) (cs cs′ ns ns′ : List ℕ) (p : Pen) (r : Items) : Type 0 where
   pub taken : r .used ≡ u

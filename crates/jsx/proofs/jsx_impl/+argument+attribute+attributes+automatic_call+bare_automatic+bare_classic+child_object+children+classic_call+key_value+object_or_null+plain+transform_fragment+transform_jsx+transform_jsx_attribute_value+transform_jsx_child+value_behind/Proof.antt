@@ -1,3 +1,12 @@
+use Rattle.definitions.specs.Calls.{bareCode, byteCode, expressionCode}
+use Rattle.definitions.specs.Calls as call
+use Rattle.commands.proofs.Lengths.{attribute-fits, value-fits, child-fits}
+use Rattle.text.proofs.Lists.{told, tail-part}
+use Rattle.roots.proofs.Behind.{part-length}
+use Rattle.jsx.specs.Parts.{context}
+use Rattle.jsx.proofs.Inversions.{value-wrong, value-cut, children-wrong, children-cut}
+use Rattle.jsx.proofs.Lowerings.{absent-written, empty-written, text-written, expression-written}
+use Rattle.jsx.proofs.Parenting.{value-element-written, value-fragment-written, child-text, child-expression, child-spread, child-empty, child-end, child-element, child-fragment, KidsLeft, kids-start, kid-fits, kids-fit, kids-go, kids-end, object-bare, object-full}
 use borrow.Author.Needs.{needs}
 use Prim.Native.Nat.{ℕ, suc, _≤_, _<_, _+_, _-_, _*_, _^_}
 use native.Mathlib.Omega.{arith}
@@ -742,7 +751,7 @@ child-object-put-bare-requires : (t : ℕ) → child-object-lts.Need-put-bare-re
 child-object-put-bare-requires t c κs = search needs
 
 child-object-children-requires : (t : ℕ) → child-object-lts.Need-children-requires (child-object-claims t) (child-object-at t) child-object.Post
-child-object-children-requires t c κs = ?
+child-object-children-requires t c κs = (omega arith, search needs)
 
 child-object-put-bare-requires-2 : (t : ℕ) → child-object-lts.Need-put-bare-requires-2 (child-object-claims t) (child-object-at t) child-object.Post
 child-object-put-bare-requires-2 t c κs = search needs
@@ -754,7 +763,8 @@ child-object-same-length-2 : (t : ℕ) → child-object-lts.Need-same-length-2 (
 child-object-same-length-2 t c = search needs
 
 child-object-returns : (t : ℕ) → child-object-lts.Need-returns (child-object-claims t) (child-object-at t) child-object.Post
-child-object-returns t c = ?
+unfolding bareCode
+child-object-returns t c = (((c .before .before .before .before .before .before .before .before .before .children) .ensures .0 .0, (c .before .before .before .before .before .before .before .before .before .children) .ensures .0 .1), λ f d k u h e. object-bare (context ((c .before .before .before .before .before .before .before .before .before .before .before .before .before .before .before .before .before .before .before .before .args) .text .now) ((c .before .before .before .before .before .before .before .before .before .before .before .before .before .before .before .before .before .before .before .before .args) .settings) ((c .before .before .before .before .before .before .before .before .before .before .before .before .before .before .before .before .before .before .before .before .args) .allowed)) (omega (arith, (c .before .before .before .before .before .before .before .before .before .before .before .before .before .before .before .before .before .before .before .before))) (omega (arith, (c .before .before .before .before .before .before .before .before .before .before .before .before .before .before .before .before .before .before .before .before))) ((c .before .before .before .before .before .before .before .before .before .before .before .before .before .before .put-bare) .ensures call.childrenBegin refl) ((c .before .before .before .before .before .before .before .before .before .children) .result) ((c .before .before .before .before .before .before .before .before .before .children) .ensures .1 f d k u h e) ((c .before .before .before .before .if1) .taken) ((c .before .before .put-bare2) .ensures call.objectEnd refl))
 
 child-object-children-form-requires : (t : ℕ) → child-object-lts.Need-children-form-requires (child-object-claims t) (child-object-at t) child-object.Post
 child-object-children-form-requires t c κs = search needs
@@ -772,52 +782,51 @@ child-object-same-length-4 : (t : ℕ) → child-object-lts.Need-same-length-4 (
 child-object-same-length-4 t c = search needs
 
 child-object-returns-2 : (t : ℕ) → child-object-lts.Need-returns-2 (child-object-claims t) (child-object-at t) child-object.Post
-child-object-returns-2 t c = ?
+unfolding bareCode byteCode
+child-object-returns-2 t c = (((c .before .before .before .before .before .before .before .before .before .before .before .before .before .before .before .children) .ensures .0 .0, (c .before .before .before .before .before .before .before .before .before .before .before .before .before .before .before .children) .ensures .0 .1), λ f d k u h e. object-full (context ((c .before .before .before .before .before .before .before .before .before .before .before .before .before .before .before .before .before .before .before .before .before .before .before .before .before .before .args) .text .now) ((c .before .before .before .before .before .before .before .before .before .before .before .before .before .before .before .before .before .before .before .before .before .before .before .before .before .before .args) .settings) ((c .before .before .before .before .before .before .before .before .before .before .before .before .before .before .before .before .before .before .before .before .before .before .before .before .before .before .args) .allowed)) (omega (arith, (c .before .before .before .before .before .before .before .before .before .before .before .before .before .before .before .before .before .before .before .before .before .before .before .before .before .before))) (omega (arith, (c .before .before .before .before .before .before .before .before .before .before .before .before .before .before .before .before .before .before .before .before .before .before .before .before .before .before))) ((c .before .before .before .before .before .before .before .before .before .before .before .before .before .before .before .before .before .before .before .before .put-bare) .ensures call.childrenBegin refl) ((c .before .before .before .before .before .before .before .before .before .before .before .before .before .before .before .children) .result) ((c .before .before .before .before .before .before .before .before .before .before .before .before .before .before .before .children) .ensures .1 f d k u h e) _ ((c .before .before .before .before .before .before .before .before .before .before .if1) .left) ((c .before .before .before .before .before .before .before .children-form) .ensures) ((c .before .before .before .before .before .before .put-byte) .ensures call.childrenEnd refl) ((c .before .before .put-bare3) .ensures call.objectEnd refl))
 
 abbrev children-Inv-loop : children-lts.InvT-loop
-children-Inv-loop text settings allowed tape calls₀ notices₀ i₀ next₀ count₀ spread₀ calls notices i next count spread =
-    ?
+children-Inv-loop text settings allowed tape calls₀ notices₀ i₀ next₀ count₀ spread₀ calls notices i next count spread = KidsLeft (context text settings allowed) tape calls₀ calls notices₀ notices next₀ next i count spread
 
 abbrev children-μ-loop : children-lts.MeasureT-loop
-children-μ-loop text settings allowed tape calls₀ notices₀ i₀ next₀ count₀ spread₀ calls notices i next count spread =
-    ?
+children-μ-loop text settings allowed tape calls₀ notices₀ i₀ next₀ count₀ spread₀ calls notices i next count spread = length tape - i
 
 children-loop-holds : (t : ℕ) → children-lts.Need-loop-holds (children-claims t) (children-at t) children.Post children-Inv-loop children-μ-loop
-children-loop-holds t c = ?
+children-loop-holds t c = kids-start _ _ _ _ _
 
 children-sub-transform-jsx-child : (t : ℕ) → children-lts.Need-sub-transform-jsx-child (children-claims t) (children-at t) children.Post children-Inv-loop children-μ-loop
-children-sub-transform-jsx-child t c = ?
+children-sub-transform-jsx-child t c = omega (arith, (c .loop) .inv .inside)
 
 children-part-transform-jsx-child-start :
     (t : ℕ) → children-lts.Need-part-transform-jsx-child-start (children-claims t) (children-at t) children.Post children-Inv-loop children-μ-loop
-children-part-transform-jsx-child-start t c = ?
+children-part-transform-jsx-child-start t c = omega (arith, (c .loop) .inv .inside)
 
 children-part-transform-jsx-child-end : (t : ℕ) → children-lts.Need-part-transform-jsx-child-end (children-claims t) (children-at t) children.Post children-Inv-loop children-μ-loop
 children-part-transform-jsx-child-end t c = search needs
 
 children-transform-jsx-child-requires : (t : ℕ) → children-lts.Need-transform-jsx-child-requires (children-claims t) (children-at t) children.Post children-Inv-loop children-μ-loop
-children-transform-jsx-child-requires t c κs = ?
+children-transform-jsx-child-requires t c κs = (omega (arith, (c .before .before .before .loop) .inv .inside, part-length ((c .before .before .before .loop) .i) ((c .before .before .before .before .before .before .before .before .args) .tape .now)), search needs)
 
 children-add-count : (t : ℕ) → children-lts.Need-add-count (children-claims t) (children-at t) children.Post children-Inv-loop children-μ-loop
-children-add-count t c = ?
+children-add-count t c = omega (arith, (c .before .before .before .before .before .before .before .before .before .before .before .before .before .before .before), kids-fit (context ((c .before .before .before .before .before .before .before .before .before .before .before .before .before .before .before .args) .text .now) ((c .before .before .before .before .before .before .before .before .before .before .before .before .before .before .before .args) .settings) ((c .before .before .before .before .before .before .before .before .before .before .before .before .before .before .before .args) .allowed)) ((c .before .before .before .before .before .before .before .before .before .before .before .before .before .before .before .args) .tape .now) ((c .before .before .before .before .before .before .before .before .before .before .loop) .inv) _ (tail-part ((c .before .before .before .before .before .before .before .before .before .before .before .before .before .before .before .args) .tape .now) ((c .before .before .before .before .before .before .before .before .before .before .loop) .i)) ((c .before .before .before .before .before .before .transform-jsx-child) .result) ((c .before .before .before .before .before .before .transform-jsx-child) .ensures .0 .0) ((c .before .before .before .before .before .before .transform-jsx-child) .ensures .0 .1))
 
 children-add-i : (t : ℕ) → children-lts.Need-add-i (children-claims t) (children-at t) children.Post children-Inv-loop children-μ-loop
-children-add-i t c = ?
+children-add-i t c = omega (arith, (c .before .before .before .before .before .before .before .before .before .before .before .before .before .before .before .before .before), kid-fits (context ((c .before .before .before .before .before .before .before .before .before .before .before .before .before .before .before .before .before .args) .text .now) ((c .before .before .before .before .before .before .before .before .before .before .before .before .before .before .before .before .before .args) .settings) ((c .before .before .before .before .before .before .before .before .before .before .before .before .before .before .before .before .before .args) .allowed)) ((c .before .before .before .before .before .before .before .before .before .before .before .before .before .before .before .before .before .args) .tape .now) ((c .before .before .before .before .before .before .before .before .before .before .before .before .loop) .inv) _ (tail-part ((c .before .before .before .before .before .before .before .before .before .before .before .before .before .before .before .before .before .args) .tape .now) ((c .before .before .before .before .before .before .before .before .before .before .before .before .loop) .i)) ((c .before .before .before .before .before .before .before .before .transform-jsx-child) .result) ((c .before .before .before .before .before .before .before .before .transform-jsx-child) .ensures .0 .0) ((c .before .before .before .before .before .before .before .before .transform-jsx-child) .ensures .0 .1))
 
 children-same-length : (t : ℕ) → children-lts.Need-same-length (children-claims t) (children-at t) children.Post children-Inv-loop children-μ-loop
-children-same-length t c = ?
+children-same-length t c = ((c .before .before .before .before .before .before .before .before .before .transform-jsx-child) .kept .1 .1 .1 .1 .0) ∙ (c .before .before .before .before .before .before .before .before .before .before .before .before .before .loop) .inv .same
 
 children-same-length-2 : (t : ℕ) → children-lts.Need-same-length-2 (children-claims t) (children-at t) children.Post children-Inv-loop children-μ-loop
-children-same-length-2 t c = ?
+children-same-length-2 t c = ((c .before .before .before .before .before .before .before .before .before .transform-jsx-child) .kept .1 .1 .1 .1 .1 .0) ∙ (c .before .before .before .before .before .before .before .before .before .before .before .before .before .loop) .inv .same′
 
 children-returns : (t : ℕ) → children-lts.Need-returns (children-claims t) (children-at t) children.Post children-Inv-loop children-μ-loop
-children-returns t c = ?
+children-returns t c = ((kid-fits (context ((c .before .before .before .before .before .before .before .before .before .before .before .before .before .before .before .before .before .before .args) .text .now) ((c .before .before .before .before .before .before .before .before .before .before .before .before .before .before .before .before .before .before .args) .settings) ((c .before .before .before .before .before .before .before .before .before .before .before .before .before .before .before .before .before .before .args) .allowed)) ((c .before .before .before .before .before .before .before .before .before .before .before .before .before .before .before .before .before .before .args) .tape .now) ((c .before .before .before .before .before .before .before .before .before .before .before .before .before .loop) .inv) _ (tail-part ((c .before .before .before .before .before .before .before .before .before .before .before .before .before .before .before .before .before .before .args) .tape .now) ((c .before .before .before .before .before .before .before .before .before .before .before .before .before .loop) .i)) ((c .before .before .before .before .before .before .before .before .before .transform-jsx-child) .result) ((c .before .before .before .before .before .before .before .before .before .transform-jsx-child) .ensures .0 .0) ((c .before .before .before .before .before .before .before .before .before .transform-jsx-child) .ensures .0 .1), kids-fit (context ((c .before .before .before .before .before .before .before .before .before .before .before .before .before .before .before .before .before .before .args) .text .now) ((c .before .before .before .before .before .before .before .before .before .before .before .before .before .before .before .before .before .before .args) .settings) ((c .before .before .before .before .before .before .before .before .before .before .before .before .before .before .before .before .before .before .args) .allowed)) ((c .before .before .before .before .before .before .before .before .before .before .before .before .before .before .before .before .before .before .args) .tape .now) ((c .before .before .before .before .before .before .before .before .before .before .before .before .before .loop) .inv) _ (tail-part ((c .before .before .before .before .before .before .before .before .before .before .before .before .before .before .before .before .before .before .args) .tape .now) ((c .before .before .before .before .before .before .before .before .before .before .before .before .before .loop) .i)) ((c .before .before .before .before .before .before .before .before .before .transform-jsx-child) .result) ((c .before .before .before .before .before .before .before .before .before .transform-jsx-child) .ensures .0 .0) ((c .before .before .before .before .before .before .before .before .before .transform-jsx-child) .ensures .0 .1)), kids-end (context ((c .before .before .before .before .before .before .before .before .before .before .before .before .before .before .before .before .before .before .args) .text .now) ((c .before .before .before .before .before .before .before .before .before .before .before .before .before .before .before .before .before .before .args) .settings) ((c .before .before .before .before .before .before .before .before .before .before .before .before .before .before .before .before .before .before .args) .allowed)) ((c .before .before .before .before .before .before .before .before .before .before .before .before .before .before .before .before .before .before .args) .tape .now) ((c .before .before .before .before .before .before .before .before .before .before .before .before .before .loop) .inv) _ (tail-part ((c .before .before .before .before .before .before .before .before .before .before .before .before .before .before .before .before .before .before .args) .tape .now) ((c .before .before .before .before .before .before .before .before .before .before .before .before .before .loop) .i)) ((c .before .before .before .before .before .before .before .before .before .transform-jsx-child) .result) ((c .before .before .before .before .before .before .before .before .before .transform-jsx-child) .ensures .0 .0) ((c .before .before .before .before .before .before .before .before .before .transform-jsx-child) .ensures .0 .1) ((c .before .before .before .before .before .before .before .before .before .transform-jsx-child) .ensures .1) (omega (arith, (c .before .before .before .before .before .before .before .before .before .before .before .before .before .before .before .before .before .before))) (omega (arith, (c .before .before .before .before .before .before .before .before .before .before .before .before .before .before .before .before .before .before))) ((c .if1) .taken))
 
 children-loop-less : (t : ℕ) → children-lts.Need-loop-less (children-claims t) (children-at t) children.Post children-Inv-loop children-μ-loop
-children-loop-less t c = ?
+children-loop-less t c = omega (arith, kid-fits (context ((c .before .before .before .before .before .before .before .before .before .before .before .before .before .before .before .before .before .before .args) .text .now) ((c .before .before .before .before .before .before .before .before .before .before .before .before .before .before .before .before .before .before .args) .settings) ((c .before .before .before .before .before .before .before .before .before .before .before .before .before .before .before .before .before .before .args) .allowed)) ((c .before .before .before .before .before .before .before .before .before .before .before .before .before .before .before .before .before .before .args) .tape .now) ((c .before .before .before .before .before .before .before .before .before .before .before .before .before .loop) .inv) _ (tail-part ((c .before .before .before .before .before .before .before .before .before .before .before .before .before .before .before .before .before .before .args) .tape .now) ((c .before .before .before .before .before .before .before .before .before .before .before .before .before .loop) .i)) ((c .before .before .before .before .before .before .before .before .before .transform-jsx-child) .result) ((c .before .before .before .before .before .before .before .before .before .transform-jsx-child) .ensures .0 .0) ((c .before .before .before .before .before .before .before .before .before .transform-jsx-child) .ensures .0 .1), (c .before .before .before .before .before .before .before .before .before .transform-jsx-child) .ensures .0 .0 .onward ((c .if1) .left))
 
 children-loop-again : (t : ℕ) → children-lts.Need-loop-again (children-claims t) (children-at t) children.Post children-Inv-loop children-μ-loop
-children-loop-again t c = ?
+children-loop-again t c = kids-go (context ((c .before .before .before .before .before .before .before .before .before .before .before .before .before .before .before .before .before .before .args) .text .now) ((c .before .before .before .before .before .before .before .before .before .before .before .before .before .before .before .before .before .before .args) .settings) ((c .before .before .before .before .before .before .before .before .before .before .before .before .before .before .before .before .before .before .args) .allowed)) ((c .before .before .before .before .before .before .before .before .before .before .before .before .before .before .before .before .before .before .args) .tape .now) ((c .before .before .before .before .before .before .before .before .before .before .before .before .before .loop) .inv) _ (tail-part ((c .before .before .before .before .before .before .before .before .before .before .before .before .before .before .before .before .before .before .args) .tape .now) ((c .before .before .before .before .before .before .before .before .before .before .before .before .before .loop) .i)) ((c .before .before .before .before .before .before .before .before .before .transform-jsx-child) .result) ((c .before .before .before .before .before .before .before .before .before .transform-jsx-child) .ensures .0 .0) ((c .before .before .before .before .before .before .before .before .before .transform-jsx-child) .ensures .0 .1) ((c .before .before .before .before .before .before .before .before .before .transform-jsx-child) .ensures .1) (omega (arith, (c .before .before .before .before .before .before .before .before .before .before .before .before .before .before .before .before .before .before))) (omega (arith, (c .before .before .before .before .before .before .before .before .before .before .before .before .before .before .before .before .before .before))) ((c .before .before .before .before .before .before .before .before .before .transform-jsx-child) .kept .1 .1 .1 .1 .0) ((c .before .before .before .before .before .before .before .before .before .transform-jsx-child) .kept .1 .1 .1 .1 .1 .0) ((c .if1) .left)
 
 classic-call-put-byte-requires : (t : ℕ) → classic-call-lts.Need-put-byte-requires (classic-call-claims t) (classic-call-at t) classic-call.Post
 classic-call-put-byte-requires t c κs = search needs
@@ -1087,11 +1096,11 @@ transform-jsx-attribute-value-enum-known-command-3 t c = search needs
 
 transform-jsx-attribute-value-sub-transform-jsx :
     (t : ℕ) → transform-jsx-attribute-value-lts.Need-sub-transform-jsx (transform-jsx-attribute-value-claims t) (transform-jsx-attribute-value-at t) transform-jsx-attribute-value.Post
-transform-jsx-attribute-value-sub-transform-jsx t c = ?
+transform-jsx-attribute-value-sub-transform-jsx t c = omega (arith, value-fits _ (told ((c .before .before .before .value-command-at) .ensures) ((c .before .command3) .given .1)))
 
 transform-jsx-attribute-value-part-transform-jsx-start :
     (t : ℕ) → transform-jsx-attribute-value-lts.Need-part-transform-jsx-start (transform-jsx-attribute-value-claims t) (transform-jsx-attribute-value-at t) transform-jsx-attribute-value.Post
-transform-jsx-attribute-value-part-transform-jsx-start t c = ?
+transform-jsx-attribute-value-part-transform-jsx-start t c = omega (arith, value-fits _ (told ((c .before .before .before .value-command-at) .ensures) ((c .before .command3) .given .1)))
 
 transform-jsx-attribute-value-part-transform-jsx-end :
     (t : ℕ) → transform-jsx-attribute-value-lts.Need-part-transform-jsx-end (transform-jsx-attribute-value-claims t) (transform-jsx-attribute-value-at t) transform-jsx-attribute-value.Post
@@ -1099,10 +1108,10 @@ transform-jsx-attribute-value-part-transform-jsx-end t c = search needs
 
 transform-jsx-attribute-value-transform-jsx-requires :
     (t : ℕ) → transform-jsx-attribute-value-lts.Need-transform-jsx-requires (transform-jsx-attribute-value-claims t) (transform-jsx-attribute-value-at t) transform-jsx-attribute-value.Post
-transform-jsx-attribute-value-transform-jsx-requires t c κs = ?
+transform-jsx-attribute-value-transform-jsx-requires t c κs = (omega (arith, value-fits _ (told ((c .before .before .before .before .before .before .value-command-at) .ensures) ((c .before .before .before .before .command3) .given .1)), part-length 9 ((c .before .before .before .before .before .before .before .before .before .before .before .args) .tape .now)), search needs)
 
 transform-jsx-attribute-value-add-t30 : (t : ℕ) → transform-jsx-attribute-value-lts.Need-add-t30 (transform-jsx-attribute-value-claims t) (transform-jsx-attribute-value-at t) transform-jsx-attribute-value.Post
-transform-jsx-attribute-value-add-t30 t c = ?
+transform-jsx-attribute-value-add-t30 t c = omega (arith, (c .before .before .before .before .before .before .before .before .before .before .before .before .before .before .before .before .before .before), (c .before .before .before .before .before .before .transform-jsx) .ensures .0, part-length 9 ((c .before .before .before .before .before .before .before .before .before .before .before .before .before .before .before .before .before .before .args) .tape .now))
 
 transform-jsx-attribute-value-enum-told-3 :
     (t : ℕ) → transform-jsx-attribute-value-lts.Need-enum-told-3 (transform-jsx-attribute-value-claims t) (transform-jsx-attribute-value-at t) transform-jsx-attribute-value.Post
@@ -1110,11 +1119,11 @@ transform-jsx-attribute-value-enum-told-3 t c = search needs
 
 transform-jsx-attribute-value-sub-transform-fragment :
     (t : ℕ) → transform-jsx-attribute-value-lts.Need-sub-transform-fragment (transform-jsx-attribute-value-claims t) (transform-jsx-attribute-value-at t) transform-jsx-attribute-value.Post
-transform-jsx-attribute-value-sub-transform-fragment t c = ?
+transform-jsx-attribute-value-sub-transform-fragment t c = omega (arith, value-fits _ (told ((c .before .before .value-command-at) .ensures) ((c .enum-told3) .given .1)))
 
 transform-jsx-attribute-value-part-transform-fragment-start :
     (t : ℕ) → transform-jsx-attribute-value-lts.Need-part-transform-fragment-start (transform-jsx-attribute-value-claims t) (transform-jsx-attribute-value-at t) transform-jsx-attribute-value.Post
-transform-jsx-attribute-value-part-transform-fragment-start t c = ?
+transform-jsx-attribute-value-part-transform-fragment-start t c = omega (arith, value-fits _ (told ((c .before .before .value-command-at) .ensures) ((c .enum-told3) .given .1)))
 
 transform-jsx-attribute-value-part-transform-fragment-end :
     (t : ℕ) → transform-jsx-attribute-value-lts.Need-part-transform-fragment-end (transform-jsx-attribute-value-claims t) (transform-jsx-attribute-value-at t) transform-jsx-attribute-value.Post
@@ -1122,10 +1131,10 @@ transform-jsx-attribute-value-part-transform-fragment-end t c = search needs
 
 transform-jsx-attribute-value-transform-fragment-requires :
     (t : ℕ) → transform-jsx-attribute-value-lts.Need-transform-fragment-requires (transform-jsx-attribute-value-claims t) (transform-jsx-attribute-value-at t) transform-jsx-attribute-value.Post
-transform-jsx-attribute-value-transform-fragment-requires t c κs = ?
+transform-jsx-attribute-value-transform-fragment-requires t c κs = (omega (arith, value-fits _ (told ((c .before .before .before .before .before .value-command-at) .ensures) ((c .before .before .before .enum-told3) .given .1)), part-length 9 ((c .before .before .before .before .before .before .before .before .before .before .args) .tape .now)), search needs)
 
 transform-jsx-attribute-value-add-t38 : (t : ℕ) → transform-jsx-attribute-value-lts.Need-add-t38 (transform-jsx-attribute-value-claims t) (transform-jsx-attribute-value-at t) transform-jsx-attribute-value.Post
-transform-jsx-attribute-value-add-t38 t c = ?
+transform-jsx-attribute-value-add-t38 t c = omega (arith, (c .before .before .before .before .before .before .before .before .before .before .before .before .before .before .before .before .before), (c .before .before .before .before .before .before .transform-fragment) .ensures .0, part-length 9 ((c .before .before .before .before .before .before .before .before .before .before .before .before .before .before .before .before .before .args) .tape .now))
 
 transform-jsx-attribute-value-enum-told-4 :
     (t : ℕ) → transform-jsx-attribute-value-lts.Need-enum-told-4 (transform-jsx-attribute-value-claims t) (transform-jsx-attribute-value-at t) transform-jsx-attribute-value.Post
@@ -1140,7 +1149,8 @@ transform-jsx-attribute-value-same-length :
 transform-jsx-attribute-value-same-length t c = search needs
 
 transform-jsx-attribute-value-returns : (t : ℕ) → transform-jsx-attribute-value-lts.Need-returns (transform-jsx-attribute-value-claims t) (transform-jsx-attribute-value-at t) transform-jsx-attribute-value.Post
-transform-jsx-attribute-value-returns t c = ?
+unfolding bareCode
+transform-jsx-attribute-value-returns t c = (value-fits _ (told ((c .before .before .before .before .before .before .value-command-at) .ensures) ((c .before .before .before .before .enum-told) .given .1)), λ f d v u h e. absent-written (context ((c .before .before .before .before .before .before .before .before .before .before .before .args) .text .now) ((c .before .before .before .before .before .before .before .before .before .before .before .args) .settings) ((c .before .before .before .before .before .before .before .before .before .before .before .args) .allowed)) _ _ f d v u e ((c .before .before .before .before .before .before .before .before .before .before .before .args) .notices .now) (told ((c .before .before .before .before .before .before .value-command-at) .ensures) ((c .before .before .before .before .enum-told) .given .1)) ((c .before .before .put-bare) .ensures call.literalTrue refl))
 
 transform-jsx-attribute-value-same-length-2 :
     (t : ℕ) → transform-jsx-attribute-value-lts.Need-same-length-2 (transform-jsx-attribute-value-claims t) (transform-jsx-attribute-value-at t) transform-jsx-attribute-value.Post
@@ -1148,7 +1158,7 @@ transform-jsx-attribute-value-same-length-2 t c = search needs
 
 transform-jsx-attribute-value-returns-2 :
     (t : ℕ) → transform-jsx-attribute-value-lts.Need-returns-2 (transform-jsx-attribute-value-claims t) (transform-jsx-attribute-value-at t) transform-jsx-attribute-value.Post
-transform-jsx-attribute-value-returns-2 t c = ?
+transform-jsx-attribute-value-returns-2 t c = (value-fits _ (told ((c .before .before .before .before .before .before .before .value-command-at) .ensures) ((c .before .before .before .before .before .command) .given .1)), λ f d v u h e. text-written (context ((c .before .before .before .before .before .before .before .before .before .before .before .before .args) .text .now) ((c .before .before .before .before .before .before .before .before .before .before .before .before .args) .settings) ((c .before .before .before .before .before .before .before .before .before .before .before .before .args) .allowed)) _ _ f d v u e ((c .before .before .before .before .before .before .before .before .before .before .before .before .args) .notices .now) _ (told ((c .before .before .before .before .before .before .before .value-command-at) .ensures) ((c .before .before .before .before .before .command) .given .1)) ((c .before .before .put-string) .ensures))
 
 transform-jsx-attribute-value-same-length-3 :
     (t : ℕ) → transform-jsx-attribute-value-lts.Need-same-length-3 (transform-jsx-attribute-value-claims t) (transform-jsx-attribute-value-at t) transform-jsx-attribute-value.Post
@@ -1156,7 +1166,8 @@ transform-jsx-attribute-value-same-length-3 t c = search needs
 
 transform-jsx-attribute-value-returns-3 :
     (t : ℕ) → transform-jsx-attribute-value-lts.Need-returns-3 (transform-jsx-attribute-value-claims t) (transform-jsx-attribute-value-at t) transform-jsx-attribute-value.Post
-transform-jsx-attribute-value-returns-3 t c = ?
+unfolding expressionCode
+transform-jsx-attribute-value-returns-3 t c = (value-fits _ (told ((c .before .before .before .before .before .before .before .value-command-at) .ensures) ((c .before .before .before .before .before .command2) .given .1)), λ f d v u h e. expression-written (context ((c .before .before .before .before .before .before .before .before .before .before .before .before .args) .text .now) ((c .before .before .before .before .before .before .before .before .before .before .before .before .args) .settings) ((c .before .before .before .before .before .before .before .before .before .before .before .before .args) .allowed)) _ _ f d v u e ((c .before .before .before .before .before .before .before .before .before .before .before .before .args) .notices .now) _ (told ((c .before .before .before .before .before .before .before .value-command-at) .ensures) ((c .before .before .before .before .before .command2) .given .1)) ((c .before .before .put-over) .ensures call.expression refl))
 
 transform-jsx-attribute-value-same-length-4 :
     (t : ℕ) → transform-jsx-attribute-value-lts.Need-same-length-4 (transform-jsx-attribute-value-claims t) (transform-jsx-attribute-value-at t) transform-jsx-attribute-value.Post
@@ -1164,7 +1175,8 @@ transform-jsx-attribute-value-same-length-4 t c = search needs
 
 transform-jsx-attribute-value-returns-4 :
     (t : ℕ) → transform-jsx-attribute-value-lts.Need-returns-4 (transform-jsx-attribute-value-claims t) (transform-jsx-attribute-value-at t) transform-jsx-attribute-value.Post
-transform-jsx-attribute-value-returns-4 t c = ?
+unfolding bareCode
+transform-jsx-attribute-value-returns-4 t c = (value-fits _ (told ((c .before .before .before .before .before .before .value-command-at) .ensures) ((c .before .before .before .before .enum-told2) .given .1)), λ f d v u h e. empty-written (context ((c .before .before .before .before .before .before .before .before .before .before .before .args) .text .now) ((c .before .before .before .before .before .before .before .before .before .before .before .args) .settings) ((c .before .before .before .before .before .before .before .before .before .before .before .args) .allowed)) _ _ f d v u e ((c .before .before .before .before .before .before .before .before .before .before .before .args) .notices .now) (told ((c .before .before .before .before .before .before .value-command-at) .ensures) ((c .before .before .before .before .enum-told2) .given .1)) ((c .before .before .put-bare2) .ensures call.literalTrue refl))
 
 transform-jsx-attribute-value-same-length-5 :
     (t : ℕ) → transform-jsx-attribute-value-lts.Need-same-length-5 (transform-jsx-attribute-value-claims t) (transform-jsx-attribute-value-at t) transform-jsx-attribute-value.Post
@@ -1176,7 +1188,7 @@ transform-jsx-attribute-value-same-length-6 t c = search needs
 
 transform-jsx-attribute-value-returns-5 :
     (t : ℕ) → transform-jsx-attribute-value-lts.Need-returns-5 (transform-jsx-attribute-value-claims t) (transform-jsx-attribute-value-at t) transform-jsx-attribute-value.Post
-transform-jsx-attribute-value-returns-5 t c = ?
+transform-jsx-attribute-value-returns-5 t c = (omega (arith, value-fits _ (told ((c .before .before .before .before .before .before .before .before .before .before .before .before .before .value-command-at) .ensures) ((c .before .before .before .before .before .before .before .before .before .before .before .command3) .given .1)), (c .before .before .before .before .before .before .transform-jsx) .ensures .0, part-length 9 ((c .before .before .before .before .before .before .before .before .before .before .before .before .before .before .before .before .before .before .args) .tape .now)), value-element-written (context ((c .before .before .before .before .before .before .before .before .before .before .before .before .before .before .before .before .before .before .args) .text .now) ((c .before .before .before .before .before .before .before .before .before .before .before .before .before .before .before .before .before .before .args) .settings) ((c .before .before .before .before .before .before .before .before .before .before .before .before .before .before .before .before .before .before .args) .allowed)) ((c .before .before .before .before .before .before .before .before .before .before .before .before .before .before .before .before .before .before .args) .tape .now) _ (tail-part ((c .before .before .before .before .before .before .before .before .before .before .before .before .before .before .before .before .before .before .args) .tape .now) 9) (value-fits _ (told ((c .before .before .before .before .before .before .before .before .before .before .before .before .before .value-command-at) .ensures) ((c .before .before .before .before .before .before .before .before .before .before .before .command3) .given .1))) ((c .before .before .before .before .before .before .before .before .before .before .before .command3) .given .0 .0) (told ((c .before .before .before .before .before .before .before .before .before .before .before .before .before .value-command-at) .ensures) ((c .before .before .before .before .before .before .before .before .before .before .before .command3) .given .1)) (search needs) (search needs) ((c .before .before .before .before .before .before .transform-jsx) .ensures .1))
 
 transform-jsx-attribute-value-same-length-7 :
     (t : ℕ) → transform-jsx-attribute-value-lts.Need-same-length-7 (transform-jsx-attribute-value-claims t) (transform-jsx-attribute-value-at t) transform-jsx-attribute-value.Post
@@ -1188,15 +1200,15 @@ transform-jsx-attribute-value-same-length-8 t c = search needs
 
 transform-jsx-attribute-value-returns-6 :
     (t : ℕ) → transform-jsx-attribute-value-lts.Need-returns-6 (transform-jsx-attribute-value-claims t) (transform-jsx-attribute-value-at t) transform-jsx-attribute-value.Post
-transform-jsx-attribute-value-returns-6 t c = ?
+transform-jsx-attribute-value-returns-6 t c = (omega (arith, value-fits _ (told ((c .before .before .before .before .before .before .before .before .before .before .before .before .value-command-at) .ensures) ((c .before .before .before .before .before .before .before .before .before .before .enum-told3) .given .1)), (c .before .before .before .before .before .before .transform-fragment) .ensures .0, part-length 9 ((c .before .before .before .before .before .before .before .before .before .before .before .before .before .before .before .before .before .args) .tape .now)), value-fragment-written (context ((c .before .before .before .before .before .before .before .before .before .before .before .before .before .before .before .before .before .args) .text .now) ((c .before .before .before .before .before .before .before .before .before .before .before .before .before .before .before .before .before .args) .settings) ((c .before .before .before .before .before .before .before .before .before .before .before .before .before .before .before .before .before .args) .allowed)) ((c .before .before .before .before .before .before .before .before .before .before .before .before .before .before .before .before .before .args) .tape .now) _ (tail-part ((c .before .before .before .before .before .before .before .before .before .before .before .before .before .before .before .before .before .args) .tape .now) 9) (value-fits _ (told ((c .before .before .before .before .before .before .before .before .before .before .before .before .value-command-at) .ensures) ((c .before .before .before .before .before .before .before .before .before .before .enum-told3) .given .1))) _ (told ((c .before .before .before .before .before .before .before .before .before .before .before .before .value-command-at) .ensures) ((c .before .before .before .before .before .before .before .before .before .before .enum-told3) .given .1)) ((c .before .before .before .before .before .before .transform-fragment) .ensures .1))
 
 transform-jsx-attribute-value-returns-7 :
     (t : ℕ) → transform-jsx-attribute-value-lts.Need-returns-7 (transform-jsx-attribute-value-claims t) (transform-jsx-attribute-value-at t) transform-jsx-attribute-value.Post
-transform-jsx-attribute-value-returns-7 t c = ?
+transform-jsx-attribute-value-returns-7 t c = (omega arith, λ f d v u h e. absurd (value-wrong ((c .before .before .before .before .before .before .before .args) .text .now) ((c .before .before .before .before .before .before .before .args) .tape .now) d f (told ((c .before .before .value-command-at) .ensures) ((c .enum-told4) .given .1)) e))
 
 transform-jsx-attribute-value-returns-8 :
     (t : ℕ) → transform-jsx-attribute-value-lts.Need-returns-8 (transform-jsx-attribute-value-claims t) (transform-jsx-attribute-value-at t) transform-jsx-attribute-value.Post
-transform-jsx-attribute-value-returns-8 t c = ?
+transform-jsx-attribute-value-returns-8 t c = (omega arith, λ f d v u h e. absurd (value-cut ((c .before .before .before .before .before .before .before .args) .text .now) ((c .before .before .before .before .before .before .before .args) .tape .now) d f (told ((c .before .before .value-command-at) .ensures) ((c .enum-told5) .given .1)) e))
 
 transform-jsx-child-child-command-at-requires :
     (t : ℕ) → transform-jsx-child-lts.Need-child-command-at-requires (transform-jsx-child-claims t) (transform-jsx-child-at t) transform-jsx-child.Post
@@ -1232,11 +1244,11 @@ transform-jsx-child-enum-known-command-4 :
 transform-jsx-child-enum-known-command-4 t c = search needs
 
 transform-jsx-child-sub-transform-jsx : (t : ℕ) → transform-jsx-child-lts.Need-sub-transform-jsx (transform-jsx-child-claims t) (transform-jsx-child-at t) transform-jsx-child.Post
-transform-jsx-child-sub-transform-jsx t c = ?
+transform-jsx-child-sub-transform-jsx t c = omega (arith, child-fits _ (told ((c .before .before .before .child-command-at) .ensures) ((c .before .command4) .given .1)))
 
 transform-jsx-child-part-transform-jsx-start :
     (t : ℕ) → transform-jsx-child-lts.Need-part-transform-jsx-start (transform-jsx-child-claims t) (transform-jsx-child-at t) transform-jsx-child.Post
-transform-jsx-child-part-transform-jsx-start t c = ?
+transform-jsx-child-part-transform-jsx-start t c = omega (arith, child-fits _ (told ((c .before .before .before .child-command-at) .ensures) ((c .before .command4) .given .1)))
 
 transform-jsx-child-part-transform-jsx-end :
     (t : ℕ) → transform-jsx-child-lts.Need-part-transform-jsx-end (transform-jsx-child-claims t) (transform-jsx-child-at t) transform-jsx-child.Post
@@ -1244,21 +1256,21 @@ transform-jsx-child-part-transform-jsx-end t c = search needs
 
 transform-jsx-child-transform-jsx-requires :
     (t : ℕ) → transform-jsx-child-lts.Need-transform-jsx-requires (transform-jsx-child-claims t) (transform-jsx-child-at t) transform-jsx-child.Post
-transform-jsx-child-transform-jsx-requires t c κs = ?
+transform-jsx-child-transform-jsx-requires t c κs = (omega (arith, child-fits _ (told ((c .before .before .before .before .before .before .child-command-at) .ensures) ((c .before .before .before .before .command4) .given .1)), part-length 9 ((c .before .before .before .before .before .before .before .before .before .before .before .args) .tape .now)), search needs)
 
 transform-jsx-child-add-t27 : (t : ℕ) → transform-jsx-child-lts.Need-add-t27 (transform-jsx-child-claims t) (transform-jsx-child-at t) transform-jsx-child.Post
-transform-jsx-child-add-t27 t c = ?
+transform-jsx-child-add-t27 t c = omega (arith, (c .before .before .before .before .before .before .before .before .before .before .before .before .before .before .before .before .before .before), (c .before .before .before .before .before .before .transform-jsx) .ensures .0, part-length 9 ((c .before .before .before .before .before .before .before .before .before .before .before .before .before .before .before .before .before .before .args) .tape .now))
 
 transform-jsx-child-enum-told-2 : (t : ℕ) → transform-jsx-child-lts.Need-enum-told-2 (transform-jsx-child-claims t) (transform-jsx-child-at t) transform-jsx-child.Post
 transform-jsx-child-enum-told-2 t c = search needs
 
 transform-jsx-child-sub-transform-fragment :
     (t : ℕ) → transform-jsx-child-lts.Need-sub-transform-fragment (transform-jsx-child-claims t) (transform-jsx-child-at t) transform-jsx-child.Post
-transform-jsx-child-sub-transform-fragment t c = ?
+transform-jsx-child-sub-transform-fragment t c = omega (arith, child-fits _ (told ((c .before .before .child-command-at) .ensures) ((c .enum-told2) .given .1)))
 
 transform-jsx-child-part-transform-fragment-start :
     (t : ℕ) → transform-jsx-child-lts.Need-part-transform-fragment-start (transform-jsx-child-claims t) (transform-jsx-child-at t) transform-jsx-child.Post
-transform-jsx-child-part-transform-fragment-start t c = ?
+transform-jsx-child-part-transform-fragment-start t c = omega (arith, child-fits _ (told ((c .before .before .child-command-at) .ensures) ((c .enum-told2) .given .1)))
 
 transform-jsx-child-part-transform-fragment-end :
     (t : ℕ) → transform-jsx-child-lts.Need-part-transform-fragment-end (transform-jsx-child-claims t) (transform-jsx-child-at t) transform-jsx-child.Post
@@ -1266,10 +1278,10 @@ transform-jsx-child-part-transform-fragment-end t c = search needs
 
 transform-jsx-child-transform-fragment-requires :
     (t : ℕ) → transform-jsx-child-lts.Need-transform-fragment-requires (transform-jsx-child-claims t) (transform-jsx-child-at t) transform-jsx-child.Post
-transform-jsx-child-transform-fragment-requires t c κs = ?
+transform-jsx-child-transform-fragment-requires t c κs = (omega (arith, child-fits _ (told ((c .before .before .before .before .before .child-command-at) .ensures) ((c .before .before .before .enum-told2) .given .1)), part-length 9 ((c .before .before .before .before .before .before .before .before .before .before .args) .tape .now)), search needs)
 
 transform-jsx-child-add-t35 : (t : ℕ) → transform-jsx-child-lts.Need-add-t35 (transform-jsx-child-claims t) (transform-jsx-child-at t) transform-jsx-child.Post
-transform-jsx-child-add-t35 t c = ?
+transform-jsx-child-add-t35 t c = omega (arith, (c .before .before .before .before .before .before .before .before .before .before .before .before .before .before .before .before .before), (c .before .before .before .before .before .before .transform-fragment) .ensures .0, part-length 9 ((c .before .before .before .before .before .before .before .before .before .before .before .before .before .before .before .before .before .args) .tape .now))
 
 transform-jsx-child-enum-told-3 : (t : ℕ) → transform-jsx-child-lts.Need-enum-told-3 (transform-jsx-child-claims t) (transform-jsx-child-at t) transform-jsx-child.Post
 transform-jsx-child-enum-told-3 t c = search needs
@@ -1284,22 +1296,24 @@ transform-jsx-child-same-length : (t : ℕ) → transform-jsx-child-lts.Need-sam
 transform-jsx-child-same-length t c = search needs
 
 transform-jsx-child-returns : (t : ℕ) → transform-jsx-child-lts.Need-returns (transform-jsx-child-claims t) (transform-jsx-child-at t) transform-jsx-child.Post
-transform-jsx-child-returns t c = ?
+transform-jsx-child-returns t c = ((record { inside = omega (arith, child-fits _ (told ((c .before .before .before .before .before .before .before .child-command-at) .ensures) ((c .before .before .before .before .before .command) .given .1)), (c .before .before .transform-jsx-text) .ensures .0 .used); onward = λ l. omega (arith, (c .before .before .transform-jsx-text) .ensures .0 .used) }, omega (arith, (c .before .before .transform-jsx-text) .ensures .0 .few, (c .before .before .transform-jsx-text) .ensures .0 .used)), λ f d k u h e. child-text (context ((c .before .before .before .before .before .before .before .before .before .before .before .before .args) .text .now) ((c .before .before .before .before .before .before .before .before .before .before .before .before .args) .settings) ((c .before .before .before .before .before .before .before .before .before .before .before .before .args) .allowed)) ((c .before .before .before .before .before .before .before .before .before .before .before .before .args) .tape .now) ((c .before .before .before .before .before .before .before .before .before .before .before .before .args) .notices .now) _ _ (told ((c .before .before .before .before .before .before .before .child-command-at) .ensures) ((c .before .before .before .before .before .command) .given .1)) ((c .before .before .transform-jsx-text) .ensures .0) ((c .before .before .transform-jsx-text) .ensures .1) f d k u e)
 
 transform-jsx-child-same-length-2 : (t : ℕ) → transform-jsx-child-lts.Need-same-length-2 (transform-jsx-child-claims t) (transform-jsx-child-at t) transform-jsx-child.Post
 transform-jsx-child-same-length-2 t c = search needs
 
 transform-jsx-child-returns-2 : (t : ℕ) → transform-jsx-child-lts.Need-returns-2 (transform-jsx-child-claims t) (transform-jsx-child-at t) transform-jsx-child.Post
-transform-jsx-child-returns-2 t c = ?
+unfolding expressionCode
+transform-jsx-child-returns-2 t c = ((record { inside = child-fits _ (told ((c .before .before .before .before .before .before .before .child-command-at) .ensures) ((c .before .before .before .before .before .command2) .given .1)); onward = λ l. omega arith }, omega arith), λ f d k u h e. child-expression (context ((c .before .before .before .before .before .before .before .before .before .before .before .before .args) .text .now) ((c .before .before .before .before .before .before .before .before .before .before .before .before .args) .settings) ((c .before .before .before .before .before .before .before .before .before .before .before .before .args) .allowed)) ((c .before .before .before .before .before .before .before .before .before .before .before .before .args) .tape .now) ((c .before .before .before .before .before .before .before .before .before .before .before .before .args) .notices .now) _ (told ((c .before .before .before .before .before .before .before .child-command-at) .ensures) ((c .before .before .before .before .before .command2) .given .1)) ((c .before .before .put-over) .ensures call.expression refl) f d k u e)
 
 transform-jsx-child-returns-3 : (t : ℕ) → transform-jsx-child-lts.Need-returns-3 (transform-jsx-child-claims t) (transform-jsx-child-at t) transform-jsx-child.Post
-transform-jsx-child-returns-3 t c = ?
+transform-jsx-child-returns-3 t c = ((record { inside = child-fits _ (told ((c .before .before .child-command-at) .ensures) ((c .enum-told) .given .1)); onward = λ l. omega arith }, omega arith), λ f d k u h e. child-empty (context ((c .before .before .before .before .before .before .before .args) .text .now) ((c .before .before .before .before .before .before .before .args) .settings) ((c .before .before .before .before .before .before .before .args) .allowed)) ((c .before .before .before .before .before .before .before .args) .tape .now) ((c .before .before .before .before .before .before .before .args) .calls .now) ((c .before .before .before .before .before .before .before .args) .notices .now) _ (told ((c .before .before .child-command-at) .ensures) ((c .enum-told) .given .1)) f d k u e)
 
 transform-jsx-child-same-length-3 : (t : ℕ) → transform-jsx-child-lts.Need-same-length-3 (transform-jsx-child-claims t) (transform-jsx-child-at t) transform-jsx-child.Post
 transform-jsx-child-same-length-3 t c = search needs
 
 transform-jsx-child-returns-4 : (t : ℕ) → transform-jsx-child-lts.Need-returns-4 (transform-jsx-child-claims t) (transform-jsx-child-at t) transform-jsx-child.Post
-transform-jsx-child-returns-4 t c = ?
+unfolding expressionCode
+transform-jsx-child-returns-4 t c = ((record { inside = child-fits _ (told ((c .before .before .before .before .before .before .before .child-command-at) .ensures) ((c .before .before .before .before .before .command3) .given .1)); onward = λ l. omega arith }, omega arith), λ f d k u h e. child-spread (context ((c .before .before .before .before .before .before .before .before .before .before .before .before .args) .text .now) ((c .before .before .before .before .before .before .before .before .before .before .before .before .args) .settings) ((c .before .before .before .before .before .before .before .before .before .before .before .before .args) .allowed)) ((c .before .before .before .before .before .before .before .before .before .before .before .before .args) .tape .now) ((c .before .before .before .before .before .before .before .before .before .before .before .before .args) .notices .now) _ (told ((c .before .before .before .before .before .before .before .child-command-at) .ensures) ((c .before .before .before .before .before .command3) .given .1)) ((c .before .before .put-over2) .ensures call.spreadItem refl) f d k u e)
 
 transform-jsx-child-same-length-4 : (t : ℕ) → transform-jsx-child-lts.Need-same-length-4 (transform-jsx-child-claims t) (transform-jsx-child-at t) transform-jsx-child.Post
 transform-jsx-child-same-length-4 t c = search needs
@@ -1308,7 +1322,7 @@ transform-jsx-child-same-length-5 : (t : ℕ) → transform-jsx-child-lts.Need-s
 transform-jsx-child-same-length-5 t c = search needs
 
 transform-jsx-child-returns-5 : (t : ℕ) → transform-jsx-child-lts.Need-returns-5 (transform-jsx-child-claims t) (transform-jsx-child-at t) transform-jsx-child.Post
-transform-jsx-child-returns-5 t c = ?
+transform-jsx-child-returns-5 t c = ((record { inside = omega (arith, child-fits _ (told ((c .before .before .before .before .before .before .before .before .before .before .before .before .before .child-command-at) .ensures) ((c .before .before .before .before .before .before .before .before .before .before .before .command4) .given .1)), (c .before .before .before .before .before .before .transform-jsx) .ensures .0, part-length 9 ((c .before .before .before .before .before .before .before .before .before .before .before .before .before .before .before .before .before .before .args) .tape .now)); onward = λ l. omega arith }, omega arith), child-element (context ((c .before .before .before .before .before .before .before .before .before .before .before .before .before .before .before .before .before .before .args) .text .now) ((c .before .before .before .before .before .before .before .before .before .before .before .before .before .before .before .before .before .before .args) .settings) ((c .before .before .before .before .before .before .before .before .before .before .before .before .before .before .before .before .before .before .args) .allowed)) ((c .before .before .before .before .before .before .before .before .before .before .before .before .before .before .before .before .before .before .args) .tape .now) _ (tail-part ((c .before .before .before .before .before .before .before .before .before .before .before .before .before .before .before .before .before .before .args) .tape .now) 9) (child-fits _ (told ((c .before .before .before .before .before .before .before .before .before .before .before .before .before .child-command-at) .ensures) ((c .before .before .before .before .before .before .before .before .before .before .before .command4) .given .1))) ((c .before .before .before .before .before .before .before .before .before .before .before .command4) .given .0 .0) (told ((c .before .before .before .before .before .before .before .before .before .before .before .before .before .child-command-at) .ensures) ((c .before .before .before .before .before .before .before .before .before .before .before .command4) .given .1)) (search needs) (search needs) ((c .before .before .before .before .before .before .transform-jsx) .ensures .1))
 
 transform-jsx-child-same-length-6 : (t : ℕ) → transform-jsx-child-lts.Need-same-length-6 (transform-jsx-child-claims t) (transform-jsx-child-at t) transform-jsx-child.Post
 transform-jsx-child-same-length-6 t c = search needs
@@ -1317,16 +1331,16 @@ transform-jsx-child-same-length-7 : (t : ℕ) → transform-jsx-child-lts.Need-s
 transform-jsx-child-same-length-7 t c = search needs
 
 transform-jsx-child-returns-6 : (t : ℕ) → transform-jsx-child-lts.Need-returns-6 (transform-jsx-child-claims t) (transform-jsx-child-at t) transform-jsx-child.Post
-transform-jsx-child-returns-6 t c = ?
+transform-jsx-child-returns-6 t c = ((record { inside = omega (arith, child-fits _ (told ((c .before .before .before .before .before .before .before .before .before .before .before .before .child-command-at) .ensures) ((c .before .before .before .before .before .before .before .before .before .before .enum-told2) .given .1)), (c .before .before .before .before .before .before .transform-fragment) .ensures .0, part-length 9 ((c .before .before .before .before .before .before .before .before .before .before .before .before .before .before .before .before .before .args) .tape .now)); onward = λ l. omega arith }, omega arith), child-fragment (context ((c .before .before .before .before .before .before .before .before .before .before .before .before .before .before .before .before .before .args) .text .now) ((c .before .before .before .before .before .before .before .before .before .before .before .before .before .before .before .before .before .args) .settings) ((c .before .before .before .before .before .before .before .before .before .before .before .before .before .before .before .before .before .args) .allowed)) ((c .before .before .before .before .before .before .before .before .before .before .before .before .before .before .before .before .before .args) .tape .now) _ (tail-part ((c .before .before .before .before .before .before .before .before .before .before .before .before .before .before .before .before .before .args) .tape .now) 9) (child-fits _ (told ((c .before .before .before .before .before .before .before .before .before .before .before .before .child-command-at) .ensures) ((c .before .before .before .before .before .before .before .before .before .before .enum-told2) .given .1))) _ (told ((c .before .before .before .before .before .before .before .before .before .before .before .before .child-command-at) .ensures) ((c .before .before .before .before .before .before .before .before .before .before .enum-told2) .given .1)) ((c .before .before .before .before .before .before .transform-fragment) .ensures .1))
 
 transform-jsx-child-returns-7 : (t : ℕ) → transform-jsx-child-lts.Need-returns-7 (transform-jsx-child-claims t) (transform-jsx-child-at t) transform-jsx-child.Post
-transform-jsx-child-returns-7 t c = ?
+transform-jsx-child-returns-7 t c = ((record { inside = child-fits _ (told ((c .before .before .child-command-at) .ensures) ((c .enum-told3) .given .1)); onward = λ l. let z : _≡_ {A = ℕ} 0 1 = cc in absurd (omega arith) }, omega arith), λ f d k u h e. child-end (context ((c .before .before .before .before .before .before .before .args) .text .now) ((c .before .before .before .before .before .before .before .args) .settings) ((c .before .before .before .before .before .before .before .args) .allowed)) ((c .before .before .before .before .before .before .before .args) .tape .now) ((c .before .before .before .before .before .before .before .args) .calls .now) ((c .before .before .before .before .before .before .before .args) .notices .now) _ (told ((c .before .before .child-command-at) .ensures) ((c .enum-told3) .given .1)) f d k u e)
 
 transform-jsx-child-returns-8 : (t : ℕ) → transform-jsx-child-lts.Need-returns-8 (transform-jsx-child-claims t) (transform-jsx-child-at t) transform-jsx-child.Post
-transform-jsx-child-returns-8 t c = ?
+transform-jsx-child-returns-8 t c = ((record { inside = omega arith; onward = λ l. let z : _≡_ {A = ℕ} 0 1 = cc in absurd (omega arith) }, omega arith), λ f d k u h e. absurd (children-wrong ((c .before .before .before .before .before .before .before .args) .text .now) ((c .before .before .before .before .before .before .before .args) .tape .now) d f (told ((c .before .before .child-command-at) .ensures) ((c .enum-told4) .given .1)) e))
 
 transform-jsx-child-returns-9 : (t : ℕ) → transform-jsx-child-lts.Need-returns-9 (transform-jsx-child-claims t) (transform-jsx-child-at t) transform-jsx-child.Post
-transform-jsx-child-returns-9 t c = ?
+transform-jsx-child-returns-9 t c = ((record { inside = omega arith; onward = λ l. let z : _≡_ {A = ℕ} 0 1 = cc in absurd (omega arith) }, omega arith), λ f d k u h e. absurd (children-cut ((c .before .before .before .before .before .before .before .args) .text .now) ((c .before .before .before .before .before .before .before .args) .tape .now) d f (told ((c .before .before .child-command-at) .ensures) ((c .enum-told5) .given .1)) e))
 
 value-behind-sub-transform-jsx-attribute-value :
     (t : ℕ) → value-behind-lts.Need-sub-transform-jsx-attribute-value (value-behind-claims t) (value-behind-at t) value-behind.Post
