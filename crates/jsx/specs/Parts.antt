@@ -106,8 +106,8 @@ pub data KeyAt (c : Context) (d : ℕ) (t : List ℕ) (other : List Output) : �
   key-at : (p g u : ℕ) (v : Value) → length t < p + g → 1 ≤ p → valueAt g (c .text) d (drop p t) ≡ done v u
       → KeyAt c d t other p (put call.key ++ lowerValue c v)
 
-abbrev pub AttributesEnd : Context → Attributes → Type 0
-AttributesEnd c a = (os : List Output) → lowerKey c a os ≡ os
+abbrev pub AttributesEnd : Context → Bool → Props → Attributes → Type 0
+AttributesEnd c classic r a = (someOutput (lowerAttributes c classic a) ≡ r .some) × (r .key ≡ 0) × ((os : List Output) → lowerKey c a os ≡ os)
 
 abbrev pub AttributesGo : Context → Bool → ℕ → Props → List ℕ → ℕ → Attributes → Attributes → Type 0
 AttributesGo c classic d r t f a b =
@@ -115,7 +115,7 @@ AttributesGo c classic d r t f a b =
 
 abbrev pub AttributeStep : Context → Bool → ℕ → List ℕ → List ℕ → List ℕ → List ℕ → List ℕ → Pen → Props → ℕ → Attributes → ℕ → Type 0
 AttributeStep c classic d t cs cs′ ns ns′ p r f a u =
-    Step (λ g l. attributesAt g (c .text) d l) (lowerAttributes c classic) (AttributesEnd c) (AttributesGo c classic d r) t cs cs′ ns ns′ p (r .pen) (r .used)
+    Step (λ g l. attributesAt g (c .text) d l) (lowerAttributes c classic) (AttributesEnd c classic r) (AttributesGo c classic d r) t cs cs′ ns ns′ p (r .pen) (r .used)
     (r .last) f a u
 
 pub record AttributesWritten (c : Context) (classic : Bool) (d : ℕ) (t : List ℕ) (a : Attributes) (u : ℕ) (cs cs′ ns ns′ : List ℕ) (p : Pen) (r : Props) : Type 0 where

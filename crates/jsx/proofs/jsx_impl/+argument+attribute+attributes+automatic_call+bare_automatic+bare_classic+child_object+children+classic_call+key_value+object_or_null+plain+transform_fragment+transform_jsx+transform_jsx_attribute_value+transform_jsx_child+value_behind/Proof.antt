@@ -1,12 +1,16 @@
-use Rattle.definitions.specs.Calls.{bareCode, byteCode, expressionCode}
 use Rattle.definitions.specs.Calls as call
+use Rattle.definitions.specs.Calls.{bareCode, byteCode, expressionCode}
 use Rattle.commands.proofs.Lengths.{attribute-fits, value-fits, child-fits}
 use Rattle.text.proofs.Lists.{told, tail-part}
 use Rattle.roots.proofs.Behind.{part-length}
 use Rattle.jsx.specs.Parts.{context}
-use Rattle.jsx.proofs.Inversions.{value-wrong, value-cut, children-wrong, children-cut}
+use Rattle.jsx.proofs.Inversions.{value-wrong, value-cut, children-wrong, children-cut, attributes-wrong, attributes-cut}
 use Rattle.jsx.proofs.Lowerings.{absent-written, empty-written, text-written, expression-written}
 use Rattle.jsx.proofs.Parenting.{value-element-written, value-fragment-written, child-text, child-expression, child-spread, child-empty, child-end, child-element, child-fragment, KidsLeft, kids-start, kid-fits, kids-fit, kids-go, kids-end, object-bare, object-full}
+use Rattle.definitions.specs.Judging.{done}
+use Rattle.definitions.specs.Tree.{Attributes}
+use Rattle.definitions.specs.Reading.{attributesAt}
+use Rattle.jsx.proofs.Attributing.{part-size, value-behind-written, plain-written, facts-moves, passed-moves, literal-moves, ended, plain-key, plain-property, plain-passed, namespaced-step, spread-step, literal-step, end-step, AttributesLeft, left-begin, key-within, left-more, left-done, key-none, key-some}
 use borrow.Author.Needs.{needs}
 use Prim.Native.Nat.{ℕ, suc, _≤_, _<_, _+_, _-_, _*_, _^_}
 use native.Mathlib.Omega.{arith}
@@ -432,6 +436,9 @@ argument-same-length-3 t c = search needs
 argument-returns-2 : (t : ℕ) → argument-lts.Need-returns-2 (argument-claims t) (argument-at t) argument.Post
 argument-returns-2 t c = ?
 
+attribute-short : (t : ℕ) (c : attribute-lts.Start (attribute-claims t) (attribute-at t) attribute.Post) → (length (c .args .calls .now) ≤ 2 ^ 63) × (length (c .args .notices .now) ≤ 2 ^ 63)
+attribute-short t c = (omega arith, omega arith)
+
 attribute-attribute-command-at-requires :
     (t : ℕ) → attribute-lts.Need-attribute-command-at-requires (attribute-claims t) (attribute-at t) attribute.Post
 attribute-attribute-command-at-requires t c κs = search needs
@@ -440,10 +447,10 @@ attribute-enum-known-command : (t : ℕ) → attribute-lts.Need-enum-known-comma
 attribute-enum-known-command t c = search needs
 
 attribute-sub-is-valued-key : (t : ℕ) → attribute-lts.Need-sub-is-valued-key (attribute-claims t) (attribute-at t) attribute.Post
-attribute-sub-is-valued-key t c = ?
+attribute-sub-is-valued-key t c = omega (arith, attribute-fits _ (told ((c .before .before .before .attribute-command-at) .ensures) ((c .before .command) .given .1)))
 
 attribute-part-is-valued-key-start : (t : ℕ) → attribute-lts.Need-part-is-valued-key-start (attribute-claims t) (attribute-at t) attribute.Post
-attribute-part-is-valued-key-start t c = ?
+attribute-part-is-valued-key-start t c = omega (arith, attribute-fits _ (told ((c .before .before .before .attribute-command-at) .ensures) ((c .before .command) .given .1)))
 
 attribute-part-is-valued-key-end : (t : ℕ) → attribute-lts.Need-part-is-valued-key-end (attribute-claims t) (attribute-at t) attribute.Post
 attribute-part-is-valued-key-end t c = search needs
@@ -452,7 +459,7 @@ attribute-is-valued-key-requires : (t : ℕ) → attribute-lts.Need-is-valued-ke
 attribute-is-valued-key-requires t c κs = search needs
 
 attribute-plain-requires : (t : ℕ) → attribute-lts.Need-plain-requires (attribute-claims t) (attribute-at t) attribute.Post
-attribute-plain-requires t c κs = ?
+attribute-plain-requires t c κs = (omega (arith, (c .before .before .before .before .before .before .before .before .before .before .before .before .before .before .pre) .0), ((c .before .before .before .before .before .before .before .before .before .before .before .before .before .before .pre) .1 .0, ((c .before .before .before .before .before .before .before .before .before .before .before .before .before .before .pre) .1 .1, attribute-fits _ (told ((c .before .before .before .before .before .before .before .before .before .attribute-command-at) .ensures) ((c .before .before .before .before .before .before .before .command) .given .1)))))
 
 attribute-same-length : (t : ℕ) → attribute-lts.Need-same-length (attribute-claims t) (attribute-at t) attribute.Post
 attribute-same-length t c = search needs
@@ -461,13 +468,13 @@ attribute-same-length-2 : (t : ℕ) → attribute-lts.Need-same-length-2 (attrib
 attribute-same-length-2 t c = search needs
 
 attribute-returns : (t : ℕ) → attribute-lts.Need-returns (attribute-claims t) (attribute-at t) attribute.Post
-attribute-returns t c = ?
+attribute-returns t c = (facts-moves ((c .before .before .before .before .plain) .result) ((c .before .before .before .before .plain) .ensures .0) (omega arith) (omega arith), plain-key _ _ ((c .before .before .before .before .before .before .before .before .before .before .before .before .before .before .before .before .before .before .before .args) .tape .now) _ (told ((c .before .before .before .before .before .before .before .before .before .before .before .before .before .before .attribute-command-at) .ensures) ((c .before .before .before .before .before .before .before .before .before .before .before .before .command) .given .1)) _ ((c .before .before .before .before .before .before .before .before .before .is-valued-key) .ensures) _ ((c .before .before .before .before .before .before .before .before .if1) .taken) ((c .before .before .before .before .before .before .before .if2) .taken) ((c .before .before .before .before .plain) .ensures .0) ((c .before .before .before .before .plain) .ensures .1))
 
 attribute-sub-skip-value : (t : ℕ) → attribute-lts.Need-sub-skip-value (attribute-claims t) (attribute-at t) attribute.Post
-attribute-sub-skip-value t c = ?
+attribute-sub-skip-value t c = omega (arith, attribute-fits _ (told ((c .before .before .before .before .before .before .before .attribute-command-at) .ensures) ((c .before .before .before .before .before .command) .given .1)))
 
 attribute-part-skip-value-start : (t : ℕ) → attribute-lts.Need-part-skip-value-start (attribute-claims t) (attribute-at t) attribute.Post
-attribute-part-skip-value-start t c = ?
+attribute-part-skip-value-start t c = omega (arith, attribute-fits _ (told ((c .before .before .before .before .before .before .before .attribute-command-at) .ensures) ((c .before .before .before .before .before .command) .given .1)))
 
 attribute-part-skip-value-end : (t : ℕ) → attribute-lts.Need-part-skip-value-end (attribute-claims t) (attribute-at t) attribute.Post
 attribute-part-skip-value-end t c = search needs
@@ -476,16 +483,16 @@ attribute-skip-value-requires : (t : ℕ) → attribute-lts.Need-skip-value-requ
 attribute-skip-value-requires t c κs = search needs
 
 attribute-add-passed : (t : ℕ) → attribute-lts.Need-add-passed (attribute-claims t) (attribute-at t) attribute.Post
-attribute-add-passed t c = ?
+attribute-add-passed t c = omega (arith, (c .skip-value) .ensures .0, part-size 5 ((c .before .before .before .before .before .before .before .before .before .before .before .before .before .before .args) .tape .now), attribute-fits _ (told ((c .before .before .before .before .before .before .before .before .before .attribute-command-at) .ensures) ((c .before .before .before .before .before .before .before .command) .given .1)))
 
 attribute-passed-requires : (t : ℕ) → attribute-lts.Need-passed-requires (attribute-claims t) (attribute-at t) attribute.Post
 attribute-passed-requires t c κs = search needs
 
 attribute-returns-2 : (t : ℕ) → attribute-lts.Need-returns-2 (attribute-claims t) (attribute-at t) attribute.Post
-attribute-returns-2 t c = ?
+attribute-returns-2 t c = (passed-moves ((c .before .before .before .before .before .before .before .before .before .before .before .before .before .before .before .args) .tape .now) ((c .passed) .result) ((c .passed) .ensures) (attribute-fits _ (told ((c .before .before .before .before .before .before .before .before .before .before .attribute-command-at) .ensures) ((c .before .before .before .before .before .before .before .before .command) .given .1))) ((c .before .skip-value) .ensures .0), plain-passed _ _ ((c .before .before .before .before .before .before .before .before .before .before .before .before .before .before .before .args) .tape .now) _ (told ((c .before .before .before .before .before .before .before .before .before .before .attribute-command-at) .ensures) ((c .before .before .before .before .before .before .before .before .command) .given .1)) _ ((c .before .before .before .before .before .is-valued-key) .ensures) _ ((c .passed) .ensures) ((c .before .before .before .before .if1) .taken) ((c .before .before .before .if2) .left) (attribute-fits _ (told ((c .before .before .before .before .before .before .before .before .before .before .attribute-command-at) .ensures) ((c .before .before .before .before .before .before .before .before .command) .given .1))) ((c .before .skip-value) .ensures .1))
 
 attribute-plain-requires-2 : (t : ℕ) → attribute-lts.Need-plain-requires-2 (attribute-claims t) (attribute-at t) attribute.Post
-attribute-plain-requires-2 t c κs = ?
+attribute-plain-requires-2 t c κs = (omega (arith, (c .before .before .before .before .before .before .before .before .before .before .before .before .before .pre) .0), ((c .before .before .before .before .before .before .before .before .before .before .before .before .before .pre) .1 .0, ((c .before .before .before .before .before .before .before .before .before .before .before .before .before .pre) .1 .1, attribute-fits _ (told ((c .before .before .before .before .before .before .before .before .attribute-command-at) .ensures) ((c .before .before .before .before .before .before .command) .given .1)))))
 
 attribute-enum-known-command-2 : (t : ℕ) → attribute-lts.Need-enum-known-command-2 (attribute-claims t) (attribute-at t) attribute.Post
 attribute-enum-known-command-2 t c = search needs
@@ -497,7 +504,7 @@ attribute-put-namespaced-requires : (t : ℕ) → attribute-lts.Need-put-namespa
 attribute-put-namespaced-requires t c κs = search needs
 
 attribute-value-behind-requires : (t : ℕ) → attribute-lts.Need-value-behind-requires (attribute-claims t) (attribute-at t) attribute.Post
-attribute-value-behind-requires t c κs = ?
+attribute-value-behind-requires t c κs = (omega (arith, (c .before .before .before .before .before .before .before .before .before .before .before .before .before .before .before .before .before .before .pre) .0), ((c .before .before .before .before .before .before .before .before .before .before .before .before .before .before .before .before .before .before .pre) .1 .0, ((c .before .before .before .before .before .before .before .before .before .before .before .before .before .before .before .before .before .before .pre) .1 .1, (omega arith, attribute-fits _ (told ((c .before .before .before .before .before .before .before .before .before .before .before .before .before .attribute-command-at) .ensures) ((c .before .before .before .before .before .before .before .before .before .before .before .command2) .given .1))))))
 
 attribute-enum-known-command-3 : (t : ℕ) → attribute-lts.Need-enum-known-command-3 (attribute-claims t) (attribute-at t) attribute.Post
 attribute-enum-known-command-3 t c = search needs
@@ -509,7 +516,7 @@ attribute-enum-known-command-4 : (t : ℕ) → attribute-lts.Need-enum-known-com
 attribute-enum-known-command-4 t c = search needs
 
 attribute-literal-attribute-requires : (t : ℕ) → attribute-lts.Need-literal-attribute-requires (attribute-claims t) (attribute-at t) attribute.Post
-attribute-literal-attribute-requires t c κs = ?
+attribute-literal-attribute-requires t c κs = attribute-fits _ (told ((c .before .before .before .before .attribute-command-at) .ensures) ((c .before .before .command4) .given .1))
 
 attribute-enum-told : (t : ℕ) → attribute-lts.Need-enum-told (attribute-claims t) (attribute-at t) attribute.Post
 attribute-enum-told t c = search needs
@@ -527,7 +534,7 @@ attribute-same-length-4 : (t : ℕ) → attribute-lts.Need-same-length-4 (attrib
 attribute-same-length-4 t c = search needs
 
 attribute-returns-3 : (t : ℕ) → attribute-lts.Need-returns-3 (attribute-claims t) (attribute-at t) attribute.Post
-attribute-returns-3 t c = ?
+attribute-returns-3 t c = (facts-moves ((c .before .before .before .before .plain2) .result) ((c .before .before .before .before .plain2) .ensures .0) (omega arith) (omega arith), plain-property _ _ ((c .before .before .before .before .before .before .before .before .before .before .before .before .before .before .before .before .before .before .args) .tape .now) _ (told ((c .before .before .before .before .before .before .before .before .before .before .before .before .before .attribute-command-at) .ensures) ((c .before .before .before .before .before .before .before .before .before .before .before .command) .given .1)) _ ((c .before .before .before .before .before .before .before .before .is-valued-key) .ensures) _ ((c .before .before .before .before .before .before .before .if1) .left) ((c .before .before .before .before .plain2) .ensures .0) ((c .before .before .before .before .plain2) .ensures .1))
 
 attribute-same-length-5 : (t : ℕ) → attribute-lts.Need-same-length-5 (attribute-claims t) (attribute-at t) attribute.Post
 attribute-same-length-5 t c = search needs
@@ -536,72 +543,82 @@ attribute-same-length-6 : (t : ℕ) → attribute-lts.Need-same-length-6 (attrib
 attribute-same-length-6 t c = search needs
 
 attribute-returns-4 : (t : ℕ) → attribute-lts.Need-returns-4 (attribute-claims t) (attribute-at t) attribute.Post
-attribute-returns-4 t c = ?
+unfolding bareCode
+attribute-returns-4 t c = (facts-moves ((c .before .before .before .before .value-behind) .result) ((c .before .before .before .before .value-behind) .ensures .0) (omega arith) (omega arith), namespaced-step _ _ ((c .before .before .before .before .before .before .before .before .before .before .before .before .before .before .before .before .before .before .before .before .before .before .before .args) .tape .now) _ _ (told ((c .before .before .before .before .before .before .before .before .before .before .before .before .before .before .before .before .before .before .attribute-command-at) .ensures) ((c .before .before .before .before .before .before .before .before .before .before .before .before .before .before .before .before .command2) .given .1)) (attribute-short t (c .before .before .before .before .before .before .before .before .before .before .before .before .before .before .before .before .before .before .before .before .before .before .before) .0) (attribute-short t (c .before .before .before .before .before .before .before .before .before .before .before .before .before .before .before .before .before .before .before .before .before .before .before) .1) ((c .before .before .before .before .before .before .before .before .before .before .before .before .before .put-bare) .ensures call.stringName refl) ((c .before .before .before .before .before .before .before .before .before .put-namespaced) .ensures) _ ((c .before .before .before .before .value-behind) .ensures .0) ((c .before .before .before .before .value-behind) .ensures .1))
 
 attribute-same-length-7 : (t : ℕ) → attribute-lts.Need-same-length-7 (attribute-claims t) (attribute-at t) attribute.Post
 attribute-same-length-7 t c = search needs
 
 attribute-returns-5 : (t : ℕ) → attribute-lts.Need-returns-5 (attribute-claims t) (attribute-at t) attribute.Post
-attribute-returns-5 t c = ?
+unfolding expressionCode
+attribute-returns-5 t c = ((record { inside = attribute-fits _ (told ((c .before .before .before .before .before .before .before .attribute-command-at) .ensures) ((c .before .before .before .before .before .command3) .given .1)); onward = λ l. omega arith }, omega arith), spread-step _ _ ((c .before .before .before .before .before .before .before .before .before .before .before .before .args) .tape .now) _ (told ((c .before .before .before .before .before .before .before .attribute-command-at) .ensures) ((c .before .before .before .before .before .command3) .given .1)) _ ((c .before .before .put-over) .ensures call.spreadProperty refl))
 
 attribute-same-length-8 : (t : ℕ) → attribute-lts.Need-same-length-8 (attribute-claims t) (attribute-at t) attribute.Post
 attribute-same-length-8 t c = search needs
 
 attribute-returns-6 : (t : ℕ) → attribute-lts.Need-returns-6 (attribute-claims t) (attribute-at t) attribute.Post
-attribute-returns-6 t c = ?
+attribute-returns-6 t c = (literal-moves ((c .before .before .literal-attribute) .result) ((c .before .before .literal-attribute) .ensures .0), literal-step _ _ ((c .before .before .before .before .before .before .before .before .before .before .before .before .args) .tape .now) _ (told ((c .before .before .before .before .before .before .before .attribute-command-at) .ensures) ((c .before .before .before .before .before .command4) .given .1)) _ ((c .before .before .literal-attribute) .ensures .0 .0) ((c .before .before .literal-attribute) .ensures .0 .1) ((c .before .before .literal-attribute) .ensures .1))
 
 attribute-returns-7 : (t : ℕ) → attribute-lts.Need-returns-7 (attribute-claims t) (attribute-at t) attribute.Post
-attribute-returns-7 t c = ?
+attribute-returns-7 t c = ((record { inside = attribute-fits _ (told ((c .before .before .attribute-command-at) .ensures) ((c .enum-told) .given .1)); onward = λ l. omega arith }, omega arith), end-step _ _ ((c .before .before .before .before .before .before .before .args) .tape .now) (told ((c .before .before .attribute-command-at) .ensures) ((c .enum-told) .given .1)) _)
 
 attribute-returns-8 : (t : ℕ) → attribute-lts.Need-returns-8 (attribute-claims t) (attribute-at t) attribute.Post
-attribute-returns-8 t c = ?
+attribute-returns-8 t c = ((record { inside = omega arith; onward = λ l. ended l }, omega arith), λ f d a u h e. absurd (attributes-wrong _ ((c .before .before .before .before .before .before .before .args) .tape .now) d f (told ((c .before .before .attribute-command-at) .ensures) ((c .enum-told2) .given .1)) e))
 
 attribute-returns-9 : (t : ℕ) → attribute-lts.Need-returns-9 (attribute-claims t) (attribute-at t) attribute.Post
-attribute-returns-9 t c = ?
+attribute-returns-9 t c = ((record { inside = omega arith; onward = λ l. ended l }, omega arith), λ f d a u h e. absurd (attributes-cut _ ((c .before .before .before .before .before .before .before .args) .tape .now) d f (told ((c .before .before .attribute-command-at) .ensures) ((c .enum-told3) .given .1)) e))
 
 abbrev attributes-Inv-loop : attributes-lts.InvT-loop
 attributes-Inv-loop text settings allowed classic tape calls₀ notices₀ i₀ next₀ some₀ key₀ calls notices i next some key =
-    ?
+    (i ≤ length tape)
+    × (key ≤ length tape)
+    × (length calls ≡ length calls₀)
+    × (length notices ≡ length notices₀)
+    × ((f d : ℕ) (a : Attributes) (u : ℕ) → length tape < f → attributesAt f text d tape ≡ done a u
+    → AttributesLeft (context text settings allowed) classic d tape a u calls₀ calls notices₀ notices next₀ next i some key)
 
 abbrev attributes-μ-loop : attributes-lts.MeasureT-loop
 attributes-μ-loop text settings allowed classic tape calls₀ notices₀ i₀ next₀ some₀ key₀ calls notices i next some key =
-    ?
+    length tape - i
+
+attributes-short : (t : ℕ) (c : attributes-lts.Start (attributes-claims t) (attributes-at t) attributes.Post attributes-Inv-loop attributes-μ-loop) → (length (c .args .calls .now) ≤ 2 ^ 63) × (length (c .args .notices .now) ≤ 2 ^ 63)
+attributes-short t c = (omega arith, omega arith)
 
 attributes-loop-holds : (t : ℕ) → attributes-lts.Need-loop-holds (attributes-claims t) (attributes-at t) attributes.Post attributes-Inv-loop attributes-μ-loop
-attributes-loop-holds t c = ?
+attributes-loop-holds t c = (omega arith, omega arith, refl, refl, left-begin _ _ ((c .before .before .before .before .args) .tape .now) _ _ _)
 
 attributes-sub-attribute : (t : ℕ) → attributes-lts.Need-sub-attribute (attributes-claims t) (attributes-at t) attributes.Post attributes-Inv-loop attributes-μ-loop
-attributes-sub-attribute t c = ?
+attributes-sub-attribute t c = (c .loop) .inv .0
 
 attributes-part-attribute-start : (t : ℕ) → attributes-lts.Need-part-attribute-start (attributes-claims t) (attributes-at t) attributes.Post attributes-Inv-loop attributes-μ-loop
-attributes-part-attribute-start t c = ?
+attributes-part-attribute-start t c = omega (arith, (c .loop) .inv .0)
 
 attributes-part-attribute-end : (t : ℕ) → attributes-lts.Need-part-attribute-end (attributes-claims t) (attributes-at t) attributes.Post attributes-Inv-loop attributes-μ-loop
 attributes-part-attribute-end t c = search needs
 
 attributes-attribute-requires : (t : ℕ) → attributes-lts.Need-attribute-requires (attributes-claims t) (attributes-at t) attributes.Post attributes-Inv-loop attributes-μ-loop
-attributes-attribute-requires t c κs = ?
+attributes-attribute-requires t c κs = (omega (arith, part-size ((c .before .before .before .loop) .i) ((c .before .before .before .before .before .before .before .before .args) .tape .now), (c .before .before .before .before .before .before .before .before .pre) .0), ((c .before .before .before .before .before .before .before .before .pre) .1 .0, (c .before .before .before .before .before .before .before .before .pre) .1 .1))
 
 attributes-newer-requires : (t : ℕ) → attributes-lts.Need-newer-requires (attributes-claims t) (attributes-at t) attributes.Post attributes-Inv-loop attributes-μ-loop
-attributes-newer-requires t c κs = ?
+attributes-newer-requires t c κs = omega (arith, (c .before .before .before .before .before .before .before .before .before .before .before .before .before .before), (c .before .before .before .before .before .attribute) .ensures .0 .0 .inside, (c .before .before .before .before .before .attribute) .ensures .0 .1, part-size ((c .before .before .before .before .before .before .before .before .before .loop) .i) ((c .before .before .before .before .before .before .before .before .before .before .before .before .before .before .args) .tape .now), (c .before .before .before .before .before .before .before .before .before .loop) .inv .0)
 
 attributes-add-i : (t : ℕ) → attributes-lts.Need-add-i (attributes-claims t) (attributes-at t) attributes.Post attributes-Inv-loop attributes-μ-loop
-attributes-add-i t c = ?
+attributes-add-i t c = omega (arith, (c .before .before .before .before .before .before .before .before .before .before .before .before .before .before .before .before .before), (c .before .before .before .before .before .before .before .before .attribute) .ensures .0 .0 .inside, part-size ((c .before .before .before .before .before .before .before .before .before .before .before .before .loop) .i) ((c .before .before .before .before .before .before .before .before .before .before .before .before .before .before .before .before .before .args) .tape .now), (c .before .before .before .before .before .before .before .before .before .before .before .before .loop) .inv .0)
 
 attributes-same-length : (t : ℕ) → attributes-lts.Need-same-length (attributes-claims t) (attributes-at t) attributes.Post attributes-Inv-loop attributes-μ-loop
-attributes-same-length t c = ?
+attributes-same-length t c = (c .before .before .before .before .before .before .before .before .before .attribute) .kept .1 .1 .1 .1 .1 .0 ∙ (c .before .before .before .before .before .before .before .before .before .before .before .before .before .loop) .inv .2
 
 attributes-same-length-2 : (t : ℕ) → attributes-lts.Need-same-length-2 (attributes-claims t) (attributes-at t) attributes.Post attributes-Inv-loop attributes-μ-loop
-attributes-same-length-2 t c = ?
+attributes-same-length-2 t c = (c .before .before .before .before .before .before .before .before .before .attribute) .kept .1 .1 .1 .1 .1 .1 .0 ∙ (c .before .before .before .before .before .before .before .before .before .before .before .before .before .loop) .inv .3
 
 attributes-returns : (t : ℕ) → attributes-lts.Need-returns (attributes-claims t) (attributes-at t) attributes.Post attributes-Inv-loop attributes-μ-loop
-attributes-returns t c = ?
+attributes-returns t c = ((omega (arith, (c .before .before .before .before .before .before .before .before .before .attribute) .ensures .0 .0 .inside, part-size ((c .before .before .before .before .before .before .before .before .before .before .before .before .before .loop) .i) ((c .before .before .before .before .before .before .before .before .before .before .before .before .before .before .before .before .before .before .args) .tape .now), (c .before .before .before .before .before .before .before .before .before .before .before .before .before .loop) .inv .0), key-within (length ((c .before .before .before .before .before .before .before .before .before .before .before .before .before .before .before .before .before .before .args) .tape .now)) ((c .before .before .before .before .before .before .before .before .before .before .before .before .before .loop) .i) ((c .before .before .before .before .before .before .before .before .before .before .before .before .before .loop) .key) _ _ _ ((c .before .before .before .before .before .before .before .before .before .before .before .before .before .loop) .inv .0) ((c .before .before .before .before .before .before .before .before .before .before .before .before .before .loop) .inv .1) ((c .before .before .before .before .before .before .before .before .before .attribute) .ensures .0 .1) (omega (arith, (c .before .before .before .before .before .before .before .before .before .attribute) .ensures .0 .0 .inside, part-size ((c .before .before .before .before .before .before .before .before .before .before .before .before .before .loop) .i) ((c .before .before .before .before .before .before .before .before .before .before .before .before .before .before .before .before .before .before .args) .tape .now))) ((c .before .before .before .newer) .ensures)), λ f d a u h e. left-done _ _ ((c .before .before .before .before .before .before .before .before .before .before .before .before .before .before .before .before .before .before .args) .tape .now) _ ((c .before .before .before .before .before .before .before .before .before .before .before .before .before .loop) .inv .0) (attributes-short t (c .before .before .before .before .before .before .before .before .before .before .before .before .before .before .before .before .before .before) .0) (attributes-short t (c .before .before .before .before .before .before .before .before .before .before .before .before .before .before .before .before .before .before) .1) ((c .before .before .before .before .before .before .before .before .before .attribute) .ensures .1) ((c .before .before .before .newer) .ensures) d a u ((c .before .before .before .before .before .before .before .before .before .before .before .before .before .loop) .inv .4 f d a u h e) ((c .if1) .taken))
 
 attributes-loop-less : (t : ℕ) → attributes-lts.Need-loop-less (attributes-claims t) (attributes-at t) attributes.Post attributes-Inv-loop attributes-μ-loop
-attributes-loop-less t c = ?
+attributes-loop-less t c = omega (arith, (c .before .before .before .before .before .before .before .before .before .attribute) .ensures .0 .0 .inside, (c .before .before .before .before .before .before .before .before .before .attribute) .ensures .0 .0 .onward ((c .if1) .left), part-size ((c .before .before .before .before .before .before .before .before .before .before .before .before .before .loop) .i) ((c .before .before .before .before .before .before .before .before .before .before .before .before .before .before .before .before .before .before .args) .tape .now), (c .before .before .before .before .before .before .before .before .before .before .before .before .before .loop) .inv .0)
 
 attributes-loop-again : (t : ℕ) → attributes-lts.Need-loop-again (attributes-claims t) (attributes-at t) attributes.Post attributes-Inv-loop attributes-μ-loop
-attributes-loop-again t c = ?
+attributes-loop-again t c = (omega (arith, (c .before .before .before .before .before .before .before .before .before .attribute) .ensures .0 .0 .inside, part-size ((c .before .before .before .before .before .before .before .before .before .before .before .before .before .loop) .i) ((c .before .before .before .before .before .before .before .before .before .before .before .before .before .before .before .before .before .before .args) .tape .now), (c .before .before .before .before .before .before .before .before .before .before .before .before .before .loop) .inv .0), key-within (length ((c .before .before .before .before .before .before .before .before .before .before .before .before .before .before .before .before .before .before .args) .tape .now)) ((c .before .before .before .before .before .before .before .before .before .before .before .before .before .loop) .i) ((c .before .before .before .before .before .before .before .before .before .before .before .before .before .loop) .key) _ _ _ ((c .before .before .before .before .before .before .before .before .before .before .before .before .before .loop) .inv .0) ((c .before .before .before .before .before .before .before .before .before .before .before .before .before .loop) .inv .1) ((c .before .before .before .before .before .before .before .before .before .attribute) .ensures .0 .1) (omega (arith, (c .before .before .before .before .before .before .before .before .before .attribute) .ensures .0 .0 .inside, part-size ((c .before .before .before .before .before .before .before .before .before .before .before .before .before .loop) .i) ((c .before .before .before .before .before .before .before .before .before .before .before .before .before .before .before .before .before .before .args) .tape .now))) ((c .before .before .before .newer) .ensures), (c .before .before .before .before .before .before .before .before .before .attribute) .kept .1 .1 .1 .1 .1 .0 ∙ (c .before .before .before .before .before .before .before .before .before .before .before .before .before .loop) .inv .2, (c .before .before .before .before .before .before .before .before .before .attribute) .kept .1 .1 .1 .1 .1 .1 .0 ∙ (c .before .before .before .before .before .before .before .before .before .before .before .before .before .loop) .inv .3, λ f d a u h e. left-more _ _ ((c .before .before .before .before .before .before .before .before .before .before .before .before .before .before .before .before .before .before .args) .tape .now) _ ((c .before .before .before .before .before .before .before .before .before .before .before .before .before .loop) .inv .0) (attributes-short t (c .before .before .before .before .before .before .before .before .before .before .before .before .before .before .before .before .before .before) .0) (attributes-short t (c .before .before .before .before .before .before .before .before .before .before .before .before .before .before .before .before .before .before) .1) ((c .before .before .before .before .before .before .before .before .before .attribute) .ensures .1) ((c .before .before .before .newer) .ensures) d a u ((c .before .before .before .before .before .before .before .before .before .before .before .before .before .loop) .inv .4 f d a u h e) ((c .if1) .left) ((c .before .before .before .before .before .before .before .before .before .attribute) .ensures .0 .0 .onward ((c .if1) .left)))
 
 automatic-call-put-byte-requires : (t : ℕ) → automatic-call-lts.Need-put-byte-requires (automatic-call-claims t) (automatic-call-at t) automatic-call.Post
 automatic-call-put-byte-requires t c κs = search needs
@@ -880,6 +897,9 @@ classic-call-same-length-2 t c = ?
 classic-call-returns : (t : ℕ) → classic-call-lts.Need-returns (classic-call-claims t) (classic-call-at t) classic-call.Post
 classic-call-returns t c = ?
 
+key-value-short : (t : ℕ) (c : key-value-lts.Start (key-value-claims t) (key-value-at t) key-value.Post) → (length (c .args .calls .now) ≤ 2 ^ 63) × (length (c .args .notices .now) ≤ 2 ^ 63)
+key-value-short t c = (omega arith, omega arith)
+
 key-value-no-key-requires : (t : ℕ) → key-value-lts.Need-no-key-requires (key-value-claims t) (key-value-at t) key-value.Post
 key-value-no-key-requires t c κs = search needs
 
@@ -887,18 +907,18 @@ key-value-same-length : (t : ℕ) → key-value-lts.Need-same-length (key-value-
 key-value-same-length t c = search needs
 
 key-value-returns : (t : ℕ) → key-value-lts.Need-returns (key-value-claims t) (key-value-at t) key-value.Post
-key-value-returns t c = ?
+key-value-returns t c = key-none _ ((c .before .before .before .before .if1) .taken) ((c .before .before .no-key) .ensures _ refl)
 
 key-value-put-bare-requires : (t : ℕ) → key-value-lts.Need-put-bare-requires (key-value-claims t) (key-value-at t) key-value.Post
 key-value-put-bare-requires t c κs = search needs
 
 key-value-sub-transform-jsx-attribute-value :
     (t : ℕ) → key-value-lts.Need-sub-transform-jsx-attribute-value (key-value-claims t) (key-value-at t) key-value.Post
-key-value-sub-transform-jsx-attribute-value t c = ?
+key-value-sub-transform-jsx-attribute-value t c = omega (arith, (c .before .before .before .before .before .before .before .before .before .pre) .1 .1 .1)
 
 key-value-part-transform-jsx-attribute-value-start :
     (t : ℕ) → key-value-lts.Need-part-transform-jsx-attribute-value-start (key-value-claims t) (key-value-at t) key-value.Post
-key-value-part-transform-jsx-attribute-value-start t c = ?
+key-value-part-transform-jsx-attribute-value-start t c = omega (arith, (c .before .before .before .before .before .before .before .before .before .pre) .1 .1 .1)
 
 key-value-part-transform-jsx-attribute-value-end :
     (t : ℕ) → key-value-lts.Need-part-transform-jsx-attribute-value-end (key-value-claims t) (key-value-at t) key-value.Post
@@ -906,7 +926,7 @@ key-value-part-transform-jsx-attribute-value-end t c = search needs
 
 key-value-transform-jsx-attribute-value-requires :
     (t : ℕ) → key-value-lts.Need-transform-jsx-attribute-value-requires (key-value-claims t) (key-value-at t) key-value.Post
-key-value-transform-jsx-attribute-value-requires t c κs = ?
+key-value-transform-jsx-attribute-value-requires t c κs = (omega (arith, part-size ((c .before .before .before .before .before .before .before .before .before .before .before .before .args) .key) ((c .before .before .before .before .before .before .before .before .before .before .before .before .args) .tape .now), (c .before .before .before .before .before .before .before .before .before .before .before .before .pre) .0, (c .before .before .before .before .before .before .before .before .before .before .before .before .pre) .1 .1 .1, (c .before .before .before .before .before .before .before .if1) .left), ((c .before .before .before .before .before .before .before .before .before .before .before .before .pre) .1 .0, (c .before .before .before .before .before .before .before .before .before .before .before .before .pre) .1 .1 .0))
 
 key-value-same-length-2 : (t : ℕ) → key-value-lts.Need-same-length-2 (key-value-claims t) (key-value-at t) key-value.Post
 key-value-same-length-2 t c = search needs
@@ -915,7 +935,8 @@ key-value-same-length-3 : (t : ℕ) → key-value-lts.Need-same-length-3 (key-va
 key-value-same-length-3 t c = search needs
 
 key-value-returns-2 : (t : ℕ) → key-value-lts.Need-returns-2 (key-value-claims t) (key-value-at t) key-value.Post
-key-value-returns-2 t c = ?
+unfolding bareCode
+key-value-returns-2 t c = key-some ((c .before .before .before .before .before .before .before .before .before .before .before .before .before .before .before .before .before .before .args) .key) ((c .before .before .before .before .before .before .before .before .before .before .before .before .before .before .before .before .before .before .pre) .1 .1 .1) (key-value-short t (c .before .before .before .before .before .before .before .before .before .before .before .before .before .before .before .before .before .before) .0) (key-value-short t (c .before .before .before .before .before .before .before .before .before .before .before .before .before .before .before .before .before .before) .1) ((c .before .before .before .before .before .before .before .before .before .before .before .before .before .if1) .left) ((c .before .before .before .before .before .before .before .before .before .before .before .put-bare) .ensures call.key refl) ((c .before .before .before .before .before .transform-jsx-attribute-value) .ensures .1)
 
 object-or-null-put-bare-requires : (t : ℕ) → object-or-null-lts.Need-put-bare-requires (object-or-null-claims t) (object-or-null-at t) object-or-null.Post
 object-or-null-put-bare-requires t c κs = search needs
@@ -956,11 +977,14 @@ object-or-null-same-length-4 t c = search needs
 object-or-null-returns-2 : (t : ℕ) → object-or-null-lts.Need-returns-2 (object-or-null-claims t) (object-or-null-at t) object-or-null.Post
 object-or-null-returns-2 t c = ?
 
+plain-short : (t : ℕ) (c : plain-lts.Start (plain-claims t) (plain-at t) plain.Post) → (length (c .args .calls .now) ≤ 2 ^ 63) × (length (c .args .notices .now) ≤ 2 ^ 63)
+plain-short t c = (omega arith, omega arith)
+
 plain-sub-key-notice : (t : ℕ) → plain-lts.Need-sub-key-notice (plain-claims t) (plain-at t) plain.Post
-plain-sub-key-notice t c = ?
+plain-sub-key-notice t c = omega (arith, (c .before .before .before .before .pre) .1 .1 .1)
 
 plain-part-key-notice-start : (t : ℕ) → plain-lts.Need-part-key-notice-start (plain-claims t) (plain-at t) plain.Post
-plain-part-key-notice-start t c = ?
+plain-part-key-notice-start t c = omega (arith, (c .before .before .before .before .pre) .1 .1 .1)
 
 plain-part-key-notice-end : (t : ℕ) → plain-lts.Need-part-key-notice-end (plain-claims t) (plain-at t) plain.Post
 plain-part-key-notice-end t c = search needs
@@ -972,7 +996,7 @@ plain-get-attribute-name-requires : (t : ℕ) → plain-lts.Need-get-attribute-n
 plain-get-attribute-name-requires t c κs = search needs
 
 plain-value-behind-requires : (t : ℕ) → plain-lts.Need-value-behind-requires (plain-claims t) (plain-at t) plain.Post
-plain-value-behind-requires t c κs = ?
+plain-value-behind-requires t c κs = (omega (arith, (c .before .before .before .before .before .before .before .before .before .before .before .before .before .before .before .pre) .0), ((c .before .before .before .before .before .before .before .before .before .before .before .before .before .before .before .pre) .1 .0, ((c .before .before .before .before .before .before .before .before .before .before .before .before .before .before .before .pre) .1 .1 .0, (omega arith, (c .before .before .before .before .before .before .before .before .before .before .before .before .before .before .before .pre) .1 .1 .1))))
 
 plain-same-length : (t : ℕ) → plain-lts.Need-same-length (plain-claims t) (plain-at t) plain.Post
 plain-same-length t c = search needs
@@ -981,7 +1005,7 @@ plain-same-length-2 : (t : ℕ) → plain-lts.Need-same-length-2 (plain-claims t
 plain-same-length-2 t c = search needs
 
 plain-returns : (t : ℕ) → plain-lts.Need-returns (plain-claims t) (plain-at t) plain.Post
-plain-returns t c = ?
+plain-returns t c = ((c .before .before .before .before .value-behind) .ensures .0, plain-written _ ((c .before .before .before .before .before .before .before .before .before .before .before .before .before .before .before .before .before .before .before .before .args) .tape .now) _ (plain-short t (c .before .before .before .before .before .before .before .before .before .before .before .before .before .before .before .before .before .before .before .before) .0) (plain-short t (c .before .before .before .before .before .before .before .before .before .before .before .before .before .before .before .before .before .before .before .before) .1) ((c .before .before .before .before .before .before .before .before .before .before .before .before .before .key-notice) .ensures) ((c .before .before .before .before .before .before .before .before .before .get-attribute-name) .ensures) ((c .before .before .before .before .value-behind) .ensures .1))
 
 transform-fragment-is-classic-requires : (t : ℕ) → transform-fragment-lts.Need-is-classic-requires (transform-fragment-claims t) (transform-fragment-at t) transform-fragment.Post
 transform-fragment-is-classic-requires t c κs = search needs
@@ -1344,11 +1368,11 @@ transform-jsx-child-returns-9 t c = ((record { inside = omega arith; onward = λ
 
 value-behind-sub-transform-jsx-attribute-value :
     (t : ℕ) → value-behind-lts.Need-sub-transform-jsx-attribute-value (value-behind-claims t) (value-behind-at t) value-behind.Post
-value-behind-sub-transform-jsx-attribute-value t c = ?
+value-behind-sub-transform-jsx-attribute-value t c = omega (arith, (c .before .before .before .before .pre) .1 .1 .1)
 
 value-behind-part-transform-jsx-attribute-value-start :
     (t : ℕ) → value-behind-lts.Need-part-transform-jsx-attribute-value-start (value-behind-claims t) (value-behind-at t) value-behind.Post
-value-behind-part-transform-jsx-attribute-value-start t c = ?
+value-behind-part-transform-jsx-attribute-value-start t c = omega (arith, (c .before .before .before .before .pre) .1 .1 .1)
 
 value-behind-part-transform-jsx-attribute-value-end :
     (t : ℕ) → value-behind-lts.Need-part-transform-jsx-attribute-value-end (value-behind-claims t) (value-behind-at t) value-behind.Post
@@ -1356,10 +1380,10 @@ value-behind-part-transform-jsx-attribute-value-end t c = search needs
 
 value-behind-transform-jsx-attribute-value-requires :
     (t : ℕ) → value-behind-lts.Need-transform-jsx-attribute-value-requires (value-behind-claims t) (value-behind-at t) value-behind.Post
-value-behind-transform-jsx-attribute-value-requires t c κs = ?
+value-behind-transform-jsx-attribute-value-requires t c κs = (omega (arith, part-size ((c .before .before .before .before .before .before .before .args) .n) ((c .before .before .before .before .before .before .before .args) .tape .now), (c .before .before .before .before .before .before .before .pre) .0, (c .before .before .before .before .before .before .before .pre) .1 .1 .1), ((c .before .before .before .before .before .before .before .pre) .1 .0, (c .before .before .before .before .before .before .before .pre) .1 .1 .0))
 
 value-behind-add-t13 : (t : ℕ) → value-behind-lts.Need-add-t13 (value-behind-claims t) (value-behind-at t) value-behind.Post
-value-behind-add-t13 t c = ?
+value-behind-add-t13 t c = omega (arith, (c .before .before .before .before .before .before .transform-jsx-attribute-value) .ensures .0, part-size ((c .before .before .before .before .before .before .before .before .before .before .before .before .before .before .args) .n) ((c .before .before .before .before .before .before .before .before .before .before .before .before .before .before .args) .tape .now), (c .before .before .before .before .before .before .before .before .before .before .before .before .before .before .pre) .1 .1 .1)
 
 value-behind-same-length : (t : ℕ) → value-behind-lts.Need-same-length (value-behind-claims t) (value-behind-at t) value-behind.Post
 value-behind-same-length t c = search needs
@@ -1368,7 +1392,7 @@ value-behind-same-length-2 : (t : ℕ) → value-behind-lts.Need-same-length-2 (
 value-behind-same-length-2 t c = search needs
 
 value-behind-returns : (t : ℕ) → value-behind-lts.Need-returns (value-behind-claims t) (value-behind-at t) value-behind.Post
-value-behind-returns t c = ?
+value-behind-returns t c = ((refl, refl, refl, omega arith, omega (arith, (c .before .before .before .before .before .before .transform-jsx-attribute-value) .ensures .0, part-size ((c .before .before .before .before .before .before .before .before .before .before .before .before .before .before .args) .n) ((c .before .before .before .before .before .before .before .before .before .before .before .before .before .before .args) .tape .now), (c .before .before .before .before .before .before .before .before .before .before .before .before .before .before .pre) .1 .1 .1)), value-behind-written _ ((c .before .before .before .before .before .before .before .before .before .before .before .before .before .before .args) .tape .now) ((c .before .before .before .before .before .before .before .before .before .before .before .before .before .before .args) .n) ((c .before .before .before .before .before .before .before .before .before .before .before .before .before .before .pre) .1 .1 .1 .0) ((c .before .before .before .before .before .before .before .before .before .before .before .before .before .before .pre) .1 .1 .1 .1) ((c .before .before .before .before .before .before .transform-jsx-attribute-value) .ensures .1))
 
 pub +argument+attribute+attributes+automatic-call+bare-automatic+bare-classic+child-object+children+classic-call+key-value+object-or-null+plain+transform-fragment+transform-jsx+transform-jsx-attribute-value+transform-jsx-child+value-behind-spec :
     {M : Type 1} → statement M
