@@ -18,6 +18,10 @@ use mathlib.Core.Path.{_≡_, refl, sym, ap, subst, _∙_}
 use lib.ListN.{length, getD, take, drop}
 use borrow.Fn.Kinds.{In}
 use borrow.Fn.PlainCycle.{Measures, is, falls, and}
+use Rattle.text.proofs.Lists.{told}
+use Rattle.definitions.specs.Calls as call
+use Rattle.roots.proofs.Behind.{part-length}
+use Rattle.jsx.proofs.Calling.{part-inside, kept-short, sole-inside, sole-argument, object-argument, some-object, no-object, classic-element, automatic-element, bare-classic-call, bare-automatic-call, element-lowered-classic, element-lowered-automatic, fragment-lowered-classic, fragment-lowered-automatic}
 use Rattle.jsx.proofs.jsx_impl.argument.Reads as argument
 use Rattle.jsx.proofs.jsx_impl.argument.Kinds as argument-kinds
 use Rattle.jsx.proofs.jsx_impl.+argument+attribute+attributes+automatic_call+bare_automatic+bare_classic+child_object+children+classic_call+key_value+object_or_null+plain+transform_fragment+transform_jsx+transform_jsx_attribute_value+transform_jsx_child+value_behind.Lts-argument as argument-lts
@@ -419,13 +423,14 @@ argument-enum-told : (t : ℕ) → argument-lts.Need-enum-told (argument-claims 
 argument-enum-told t c = search needs
 
 argument-object-or-null-requires : (t : ℕ) → argument-lts.Need-object-or-null-requires (argument-claims t) (argument-at t) argument.Post
-argument-object-or-null-requires t c κs = ?
+argument-object-or-null-requires t c κs = (omega (arith, (c .before .before .before .before .before .before .before .before .before .pre) .0), (c .before .before .before .before .before .before .before .before .before .pre) .1)
 
 argument-same-length : (t : ℕ) → argument-lts.Need-same-length (argument-claims t) (argument-at t) argument.Post
 argument-same-length t c = search needs
 
 argument-returns : (t : ℕ) → argument-lts.Need-returns (argument-claims t) (argument-at t) argument.Post
-argument-returns t c = ?
+unfolding call.expressionCode
+argument-returns t c = (sole-inside _ _ _ _ ((c .before .before .before .before .before .lone) .given .1) ((c .before .before .before .before .before .before .before .lone-spread) .ensures .0), λ d f a u h e q. sole-argument _ a u _ _ ((c .before .before .before .before .before .before .before .lone-spread) .ensures .1 _ refl refl f d a u h e) _ _ _ ((c .before .before .before .before .before .lone) .given .1) ((c .before .before .put-over) .ensures call.soleSpread refl))
 
 argument-same-length-2 : (t : ℕ) → argument-lts.Need-same-length-2 (argument-claims t) (argument-at t) argument.Post
 argument-same-length-2 t c = search needs
@@ -434,7 +439,7 @@ argument-same-length-3 : (t : ℕ) → argument-lts.Need-same-length-3 (argument
 argument-same-length-3 t c = search needs
 
 argument-returns-2 : (t : ℕ) → argument-lts.Need-returns-2 (argument-claims t) (argument-at t) argument.Post
-argument-returns-2 t c = ?
+argument-returns-2 t c = ((c .before .before .before .before .object-or-null) .ensures .0, λ d f a u h e q. object-argument _ a u _ _ ((c .before .before .before .before .before .before .before .before .before .lone-spread) .ensures .1 _ refl refl f d a u h e) ((c .before .before .before .before .before .before .before .enum-told) .given .1) ((c .before .before .before .before .object-or-null) .ensures .1 d f a u h e q))
 
 attribute-short : (t : ℕ) (c : attribute-lts.Start (attribute-claims t) (attribute-at t) attribute.Post) → (length (c .args .calls .now) ≤ 2 ^ 63) × (length (c .args .notices .now) ≤ 2 ^ 63)
 attribute-short t c = (omega arith, omega arith)
@@ -620,6 +625,10 @@ attributes-loop-less t c = omega (arith, (c .before .before .before .before .bef
 attributes-loop-again : (t : ℕ) → attributes-lts.Need-loop-again (attributes-claims t) (attributes-at t) attributes.Post attributes-Inv-loop attributes-μ-loop
 attributes-loop-again t c = (omega (arith, (c .before .before .before .before .before .before .before .before .before .attribute) .ensures .0 .0 .inside, part-size ((c .before .before .before .before .before .before .before .before .before .before .before .before .before .loop) .i) ((c .before .before .before .before .before .before .before .before .before .before .before .before .before .before .before .before .before .before .args) .tape .now), (c .before .before .before .before .before .before .before .before .before .before .before .before .before .loop) .inv .0), key-within (length ((c .before .before .before .before .before .before .before .before .before .before .before .before .before .before .before .before .before .before .args) .tape .now)) ((c .before .before .before .before .before .before .before .before .before .before .before .before .before .loop) .i) ((c .before .before .before .before .before .before .before .before .before .before .before .before .before .loop) .key) _ _ _ ((c .before .before .before .before .before .before .before .before .before .before .before .before .before .loop) .inv .0) ((c .before .before .before .before .before .before .before .before .before .before .before .before .before .loop) .inv .1) ((c .before .before .before .before .before .before .before .before .before .attribute) .ensures .0 .1) (omega (arith, (c .before .before .before .before .before .before .before .before .before .attribute) .ensures .0 .0 .inside, part-size ((c .before .before .before .before .before .before .before .before .before .before .before .before .before .loop) .i) ((c .before .before .before .before .before .before .before .before .before .before .before .before .before .before .before .before .before .before .args) .tape .now))) ((c .before .before .before .newer) .ensures), (c .before .before .before .before .before .before .before .before .before .attribute) .kept .1 .1 .1 .1 .1 .0 ∙ (c .before .before .before .before .before .before .before .before .before .before .before .before .before .loop) .inv .2, (c .before .before .before .before .before .before .before .before .before .attribute) .kept .1 .1 .1 .1 .1 .1 .0 ∙ (c .before .before .before .before .before .before .before .before .before .before .before .before .before .loop) .inv .3, λ f d a u h e. left-more _ _ ((c .before .before .before .before .before .before .before .before .before .before .before .before .before .before .before .before .before .before .args) .tape .now) _ ((c .before .before .before .before .before .before .before .before .before .before .before .before .before .loop) .inv .0) (attributes-short t (c .before .before .before .before .before .before .before .before .before .before .before .before .before .before .before .before .before .before) .0) (attributes-short t (c .before .before .before .before .before .before .before .before .before .before .before .before .before .before .before .before .before .before) .1) ((c .before .before .before .before .before .before .before .before .before .attribute) .ensures .1) ((c .before .before .before .newer) .ensures) d a u ((c .before .before .before .before .before .before .before .before .before .before .before .before .before .loop) .inv .4 f d a u h e) ((c .if1) .left) ((c .before .before .before .before .before .before .before .before .before .attribute) .ensures .0 .0 .onward ((c .if1) .left)))
 
+automatic-call-short : (t : ℕ) (c : automatic-call-lts.Start (automatic-call-claims t) (automatic-call-at t) automatic-call.Post)
+    → (length (c .args .calls .now) ≤ 2 ^ 63) × (length (c .args .notices .now) ≤ 2 ^ 63) × (length (c .args .tape .now) ≤ 2 ^ 63)
+automatic-call-short t c = (omega arith, omega arith, omega arith)
+
 automatic-call-put-byte-requires : (t : ℕ) → automatic-call-lts.Need-put-byte-requires (automatic-call-claims t) (automatic-call-at t) automatic-call.Post
 automatic-call-put-byte-requires t c κs = search needs
 
@@ -627,43 +636,47 @@ automatic-call-put-bare-requires : (t : ℕ) → automatic-call-lts.Need-put-bar
 automatic-call-put-bare-requires t c κs = search needs
 
 automatic-call-sub-attributes : (t : ℕ) → automatic-call-lts.Need-sub-attributes (automatic-call-claims t) (automatic-call-at t) automatic-call.Post
-automatic-call-sub-attributes t c = ?
+automatic-call-sub-attributes t c = (c .before .before .before .before .before .before .before .before .before .before .before .before .pre) .1 .1 .1
 
 automatic-call-part-attributes-start : (t : ℕ) → automatic-call-lts.Need-part-attributes-start (automatic-call-claims t) (automatic-call-at t) automatic-call.Post
-automatic-call-part-attributes-start t c = ?
+automatic-call-part-attributes-start t c = omega (arith, (c .before .before .before .before .before .before .before .before .before .before .before .before .pre) .1 .1 .1)
 
 automatic-call-part-attributes-end : (t : ℕ) → automatic-call-lts.Need-part-attributes-end (automatic-call-claims t) (automatic-call-at t) automatic-call.Post
 automatic-call-part-attributes-end t c = search needs
 
 automatic-call-attributes-requires : (t : ℕ) → automatic-call-lts.Need-attributes-requires (automatic-call-claims t) (automatic-call-at t) automatic-call.Post
-automatic-call-attributes-requires t c κs = ?
+automatic-call-attributes-requires t c κs = (omega (arith, (c .before .before .before .before .before .before .before .before .before .before .before .before .before .before .before .pre) .0, part-length ((c .before .before .before .before .before .before .before .before .before .before .before .before .before .before .before .args) .at) ((c .before .before .before .before .before .before .before .before .before .before .before .before .before .before .before .args) .tape .now)), ((c .before .before .before .before .before .before .before .before .before .before .before .before .before .before .before .pre) .1 .0, (c .before .before .before .before .before .before .before .before .before .before .before .before .before .before .before .pre) .1 .1 .0))
+
+automatic-call-parted : (t : ℕ) (c : automatic-call-lts.After-attributes (automatic-call-claims t) (automatic-call-at t) automatic-call.Post)
+    → c .before .before .before .before .before .before .before .before .before .before .before .before .before .before .before .before .args .at + c .attributes .result .used ≤ length (c .before .before .before .before .before .before .before .before .before .before .before .before .before .before .before .before .args .tape .now)
+automatic-call-parted t c = part-inside (c .before .before .before .before .before .before .before .before .before .before .before .before .before .before .before .before .args .tape .now) (c .before .before .before .before .before .before .before .before .before .before .before .before .before .before .before .before .args .at) (c .attributes .result .used) (c .before .before .before .before .before .before .before .before .before .before .before .before .before .before .before .before .pre .1 .1 .1) (c .attributes .ensures .0 .0)
 
 automatic-call-add-from : (t : ℕ) → automatic-call-lts.Need-add-from (automatic-call-claims t) (automatic-call-at t) automatic-call.Post
-automatic-call-add-from t c = ?
+automatic-call-add-from t c = omega (arith, automatic-call-parted t (c .before .before .before .before .before .before), automatic-call-short t (c .before .before .before .before .before .before .before .before .before .before .before .before .before .before .before .before .before .before .before .before .before .before) .2)
 
 automatic-call-sub-child-object : (t : ℕ) → automatic-call-lts.Need-sub-child-object (automatic-call-claims t) (automatic-call-at t) automatic-call.Post
-automatic-call-sub-child-object t c = ?
+automatic-call-sub-child-object t c = automatic-call-parted t (c .before .before .before .before .before .before)
 
 automatic-call-part-child-object-start : (t : ℕ) → automatic-call-lts.Need-part-child-object-start (automatic-call-claims t) (automatic-call-at t) automatic-call.Post
-automatic-call-part-child-object-start t c = ?
+automatic-call-part-child-object-start t c = omega (arith, automatic-call-parted t (c .before .before .before .before .before .before))
 
 automatic-call-part-child-object-end : (t : ℕ) → automatic-call-lts.Need-part-child-object-end (automatic-call-claims t) (automatic-call-at t) automatic-call.Post
 automatic-call-part-child-object-end t c = search needs
 
 automatic-call-child-object-requires : (t : ℕ) → automatic-call-lts.Need-child-object-requires (automatic-call-claims t) (automatic-call-at t) automatic-call.Post
-automatic-call-child-object-requires t c κs = ?
+automatic-call-child-object-requires t c κs = (omega (arith, (c .before .before .before .before .before .before .before .before .before .before .before .before .before .before .before .before .before .before .before .before .before .before .before .before .before .pre) .0, part-length ((c .before .before .before .before .before .before .before .before .before .before .before .before .before .before .before .before .before .before .before .before .before .before .before .before .before .args) .at + (c .before .before .before .before .before .before .before .before .before .attributes) .result .used) ((c .before .before .before .before .before .before .before .before .before .before .before .before .before .before .before .before .before .before .before .before .before .before .before .before .before .args) .tape .now)), ((c .before .before .before .before .before .before .before .before .before .before .before .before .before .before .before .before .before .before .before .before .before .before .before .before .before .pre) .1 .0, (c .before .before .before .before .before .before .before .before .before .before .before .before .before .before .before .before .before .before .before .before .before .before .before .before .before .pre) .1 .1 .0))
 
 automatic-call-sub-key-value : (t : ℕ) → automatic-call-lts.Need-sub-key-value (automatic-call-claims t) (automatic-call-at t) automatic-call.Post
-automatic-call-sub-key-value t c = ?
+automatic-call-sub-key-value t c = (c .before .before .before .before .before .before .before .before .before .before .before .before .before .before .before .before .before .before .before .before .before .before .before .before .before .before .before .before .before .before .before .pre) .1 .1 .1
 
 automatic-call-part-key-value-start : (t : ℕ) → automatic-call-lts.Need-part-key-value-start (automatic-call-claims t) (automatic-call-at t) automatic-call.Post
-automatic-call-part-key-value-start t c = ?
+automatic-call-part-key-value-start t c = omega (arith, (c .before .before .before .before .before .before .before .before .before .before .before .before .before .before .before .before .before .before .before .before .before .before .before .before .before .before .before .before .before .before .before .pre) .1 .1 .1)
 
 automatic-call-part-key-value-end : (t : ℕ) → automatic-call-lts.Need-part-key-value-end (automatic-call-claims t) (automatic-call-at t) automatic-call.Post
 automatic-call-part-key-value-end t c = search needs
 
 automatic-call-key-value-requires : (t : ℕ) → automatic-call-lts.Need-key-value-requires (automatic-call-claims t) (automatic-call-at t) automatic-call.Post
-automatic-call-key-value-requires t c κs = ?
+automatic-call-key-value-requires t c κs = (omega (arith, (c .before .before .before .before .before .before .before .before .before .before .before .before .before .before .before .before .before .before .before .before .before .before .before .before .before .before .before .before .before .before .before .before .before .before .pre) .0, part-length ((c .before .before .before .before .before .before .before .before .before .before .before .before .before .before .before .before .before .before .before .before .before .before .before .before .before .before .before .before .before .before .before .before .before .before .args) .at) ((c .before .before .before .before .before .before .before .before .before .before .before .before .before .before .before .before .before .before .before .before .before .before .before .before .before .before .before .before .before .before .before .before .before .before .args) .tape .now)), ((c .before .before .before .before .before .before .before .before .before .before .before .before .before .before .before .before .before .before .before .before .before .before .before .before .before .before .before .before .before .before .before .before .before .before .pre) .1 .0, ((c .before .before .before .before .before .before .before .before .before .before .before .before .before .before .before .before .before .before .before .before .before .before .before .before .before .before .before .before .before .before .before .before .before .before .pre) .1 .1 .0, (c .before .before .before .before .before .before .before .before .before .before .before .before .before .before .before .before .before .before .attributes) .ensures .0 .1)))
 
 automatic-call-static-children-requires :
     (t : ℕ) → automatic-call-lts.Need-static-children-requires (automatic-call-claims t) (automatic-call-at t) automatic-call.Post
@@ -688,17 +701,26 @@ automatic-call-automatic-name-requires t c κs = search needs
 automatic-call-closing-requires : (t : ℕ) → automatic-call-lts.Need-closing-requires (automatic-call-claims t) (automatic-call-at t) automatic-call.Post
 automatic-call-closing-requires t c κs = search needs
 
+automatic-call-whole : (t : ℕ) (c : automatic-call-lts.After-child-object (automatic-call-claims t) (automatic-call-at t) automatic-call.Post)
+    → c .before .before .before .before .before .before .before .before .before .before .before .before .before .before .before .before .before .before .before .before .before .before .before .before .before .before .args .at + c .before .before .before .before .before .before .before .before .before .before .attributes .result .used + c .child-object .result .used ≤ length (c .before .before .before .before .before .before .before .before .before .before .before .before .before .before .before .before .before .before .before .before .before .before .before .before .before .before .args .tape .now)
+automatic-call-whole t c = part-inside (c .before .before .before .before .before .before .before .before .before .before .before .before .before .before .before .before .before .before .before .before .before .before .before .before .before .before .args .tape .now) (c .before .before .before .before .before .before .before .before .before .before .before .before .before .before .before .before .before .before .before .before .before .before .before .before .before .before .args .at + c .before .before .before .before .before .before .before .before .before .before .attributes .result .used) (c .child-object .result .used) (automatic-call-parted t (c .before .before .before .before .before .before .before .before .before .before)) (c .child-object .ensures .0 .0)
+
 automatic-call-add-t30 : (t : ℕ) → automatic-call-lts.Need-add-t30 (automatic-call-claims t) (automatic-call-at t) automatic-call.Post
-automatic-call-add-t30 t c = ?
+automatic-call-add-t30 t c = omega (arith, automatic-call-whole t (c .before .before .before .before .before .before .before .before .before .before .before .before .before .before .before .before .before .before .before .before .before .before .before .before .before .before .before .before .before .before .before .before .before .before .before .before .before .before .before .before .before .before), automatic-call-short t (c .before .before .before .before .before .before .before .before .before .before .before .before .before .before .before .before .before .before .before .before .before .before .before .before .before .before .before .before .before .before .before .before .before .before .before .before .before .before .before .before .before .before .before .before .before .before .before .before .before .before .before .before .before .before .before .before .before .before .before .before .before .before .before .before .before .before .before .before) .2)
 
 automatic-call-same-length : (t : ℕ) → automatic-call-lts.Need-same-length (automatic-call-claims t) (automatic-call-at t) automatic-call.Post
-automatic-call-same-length t c = ?
+automatic-call-same-length t c = (c .before .before .before .closing) .kept .1 .0 ∙ (c .before .before .before .before .before .before .before .before .before .before .transform-element-name) .kept .1 .1 .0 ∙ (c .before .before .before .before .before .before .before .before .before .before .before .before .before .before .before .put-bare2) .kept .0 ∙ (c .before .before .before .before .before .before .before .before .before .before .before .before .before .before .before .before .before .before .before .self-output) .kept .1 .1 .0 ∙ (c .before .before .before .before .before .before .before .before .before .before .before .before .before .before .before .before .before .before .before .before .before .before .before .source-output) .kept .1 .0 ∙ (c .before .before .before .before .before .before .before .before .before .before .before .before .before .before .before .before .before .before .before .before .before .before .before .before .before .before .before .static-children) .kept .1 .0 ∙ (c .before .before .before .before .before .before .before .before .before .before .before .before .before .before .before .before .before .before .before .before .before .before .before .before .before .before .before .before .before .before .before .before .before .key-value) .kept .1 .1 .1 .1 .1 .0 ∙ (c .before .before .before .before .before .before .before .before .before .before .before .before .before .before .before .before .before .before .before .before .before .before .before .before .before .before .before .before .before .before .before .before .before .before .before .before .before .before .before .before .before .before .child-object) .kept .1 .1 .1 .1 .0 ∙ (c .before .before .before .before .before .before .before .before .before .before .before .before .before .before .before .before .before .before .before .before .before .before .before .before .before .before .before .before .before .before .before .before .before .before .before .before .before .before .before .before .before .before .before .before .before .before .before .before .before .before .before .before .attributes) .kept .1 .1 .1 .1 .1 .0 ∙ (c .before .before .before .before .before .before .before .before .before .before .before .before .before .before .before .before .before .before .before .before .before .before .before .before .before .before .before .before .before .before .before .before .before .before .before .before .before .before .before .before .before .before .before .before .before .before .before .before .before .before .before .before .before .before .before .before .before .before .put-bare) .kept .0 ∙ (c .before .before .before .before .before .before .before .before .before .before .before .before .before .before .before .before .before .before .before .before .before .before .before .before .before .before .before .before .before .before .before .before .before .before .before .before .before .before .before .before .before .before .before .before .before .before .before .before .before .before .before .before .before .before .before .before .before .before .before .before .before .before .put-byte) .kept .0
 
 automatic-call-same-length-2 : (t : ℕ) → automatic-call-lts.Need-same-length-2 (automatic-call-claims t) (automatic-call-at t) automatic-call.Post
-automatic-call-same-length-2 t c = ?
+automatic-call-same-length-2 t c = (c .before .before .before .before .before .before .before .before .before .before .transform-element-name) .kept .1 .1 .1 .0 ∙ (c .before .before .before .before .before .before .before .before .before .before .before .before .before .before .before .before .before .before .before .before .before .before .before .before .before .before .before .before .before .before .before .before .before .key-value) .kept .1 .1 .1 .1 .1 .1 .0 ∙ (c .before .before .before .before .before .before .before .before .before .before .before .before .before .before .before .before .before .before .before .before .before .before .before .before .before .before .before .before .before .before .before .before .before .before .before .before .before .before .before .before .before .before .child-object) .kept .1 .1 .1 .1 .1 .0 ∙ (c .before .before .before .before .before .before .before .before .before .before .before .before .before .before .before .before .before .before .before .before .before .before .before .before .before .before .before .before .before .before .before .before .before .before .before .before .before .before .before .before .before .before .before .before .before .before .before .before .before .before .before .before .attributes) .kept .1 .1 .1 .1 .1 .1 .0
 
 automatic-call-returns : (t : ℕ) → automatic-call-lts.Need-returns (automatic-call-claims t) (automatic-call-at t) automatic-call.Post
-automatic-call-returns t c = ?
+unfolding call.bareCode call.byteCode
+automatic-call-returns t c = (automatic-call-whole t (c .before .before .before .before .before .before .before .before .before .before .before .before .before .before .before .before .before .before .before .before .before .before .before .before .before .before .before .before .before .before .before .before .before .before .before .before .before .before .before .before .before .before), λ d f n a v k w P q. automatic-element _ _ (automatic-call-short t (c .before .before .before .before .before .before .before .before .before .before .before .before .before .before .before .before .before .before .before .before .before .before .before .before .before .before .before .before .before .before .before .before .before .before .before .before .before .before .before .before .before .before .before .before .before .before .before .before .before .before .before .before .before .before .before .before .before .before .before .before .before .before .before .before .before .before .before .before) .0) (automatic-call-short t (c .before .before .before .before .before .before .before .before .before .before .before .before .before .before .before .before .before .before .before .before .before .before .before .before .before .before .before .before .before .before .before .before .before .before .before .before .before .before .before .before .before .before .before .before .before .before .before .before .before .before .before .before .before .before .before .before .before .before .before .before .before .before .before .before .before .before .before .before) .1) _ _ P (kept-short ((c .before .before .before .before .before .before .before .before .before .before .before .before .before .before .before .before .before .before .before .before .before .before .before .before .before .before .before .static-children) .kept .1 .0 ∙ (c .before .before .before .before .before .before .before .before .before .before .before .before .before .before .before .before .before .before .before .before .before .before .before .before .before .before .before .before .before .before .before .before .before .key-value) .kept .1 .1 .1 .1 .1 .0 ∙ (c .before .before .before .before .before .before .before .before .before .before .before .before .before .before .before .before .before .before .before .before .before .before .before .before .before .before .before .before .before .before .before .before .before .before .before .before .before .before .before .before .before .before .child-object) .kept .1 .1 .1 .1 .0 ∙ (c .before .before .before .before .before .before .before .before .before .before .before .before .before .before .before .before .before .before .before .before .before .before .before .before .before .before .before .before .before .before .before .before .before .before .before .before .before .before .before .before .before .before .before .before .before .before .before .before .before .before .before .before .attributes) .kept .1 .1 .1 .1 .1 .0 ∙ (c .before .before .before .before .before .before .before .before .before .before .before .before .before .before .before .before .before .before .before .before .before .before .before .before .before .before .before .before .before .before .before .before .before .before .before .before .before .before .before .before .before .before .before .before .before .before .before .before .before .before .before .before .before .before .before .before .before .before .put-bare) .kept .0 ∙ (c .before .before .before .before .before .before .before .before .before .before .before .before .before .before .before .before .before .before .before .before .before .before .before .before .before .before .before .before .before .before .before .before .before .before .before .before .before .before .before .before .before .before .before .before .before .before .before .before .before .before .before .before .before .before .before .before .before .before .before .before .before .before .put-byte) .kept .0) (automatic-call-short t (c .before .before .before .before .before .before .before .before .before .before .before .before .before .before .before .before .before .before .before .before .before .before .before .before .before .before .before .before .before .before .before .before .before .before .before .before .before .before .before .before .before .before .before .before .before .before .before .before .before .before .before .before .before .before .before .before .before .before .before .before .before .before .before .before .before .before .before .before) .0)) (kept-short ((c .before .before .before .before .before .before .before .before .before .before .before .before .before .before .before .before .before .before .before .before .before .before .before .before .before .before .before .before .before .before .before .before .before .key-value) .kept .1 .1 .1 .1 .1 .1 .0 ∙ (c .before .before .before .before .before .before .before .before .before .before .before .before .before .before .before .before .before .before .before .before .before .before .before .before .before .before .before .before .before .before .before .before .before .before .before .before .before .before .before .before .before .before .child-object) .kept .1 .1 .1 .1 .1 .0 ∙ (c .before .before .before .before .before .before .before .before .before .before .before .before .before .before .before .before .before .before .before .before .before .before .before .before .before .before .before .before .before .before .before .before .before .before .before .before .before .before .before .before .before .before .before .before .before .before .before .before .before .before .before .before .attributes) .kept .1 .1 .1 .1 .1 .1 .0) (automatic-call-short t (c .before .before .before .before .before .before .before .before .before .before .before .before .before .before .before .before .before .before .before .before .before .before .before .before .before .before .before .before .before .before .before .before .before .before .before .before .before .before .before .before .before .before .before .before .before .before .before .before .before .before .before .before .before .before .before .before .before .before .before .before .before .before .before .before .before .before .before .before) .1)) ((c .before .before .before .before .before .before .before .before .before .before .before .before .before .before .before .before .before .before .before .before .before .before .before .before .before .before .before .before .before .before .before .before .before .before .before .before .before .before .before .before .before .before .before .before .before .before .before .before .before .before .before .before .before .before .before .before .before .before .before .before .before .before .put-byte) .ensures call.call refl) ((c .before .before .before .before .before .before .before .before .before .before .before .before .before .before .before .before .before .before .before .before .before .before .before .before .before .before .before .before .before .before .before .before .before .before .before .before .before .before .before .before .before .before .before .before .before .before .before .before .before .before .before .before .before .before .before .before .before .before .put-bare) .ensures call.objectBegin refl) ((c .before .before .before .before .before .before .before .before .before .before .before .before .before .before .before .before .before .before .before .before .before .before .before .before .before .before .before .before .before .before .before .before .before .before .before .before .before .before .before .before .before .before .before .before .before .before .before .before .before .before .before .before .attributes) .ensures .1) ((c .before .before .before .before .before .before .before .before .before .before .before .before .before .before .before .before .before .before .before .before .before .before .before .before .before .before .before .before .before .before .before .before .before .before .before .before .before .before .before .before .before .before .child-object) .ensures .1) ((c .before .before .before .before .before .before .before .before .before .before .before .before .before .before .before .before .before .before .before .before .before .before .before .before .before .before .before .before .before .before .before .before .before .key-value) .ensures) ((c .before .before .before .before .before .before .before .before .before .before .before .before .before .before .before .before .before .before .before .before .before .before .before .before .before .before .before .static-children) .ensures _ refl) ((c .before .before .before .before .before .before .before .before .before .before .before .before .before .before .before .before .before .before .before .before .before .before .before .source-output) .ensures _ refl (q .line) (q .column)) ((c .before .before .before .before .before .before .before .before .before .before .before .before .before .before .before .before .before .before .before .self-output) .ensures _ refl refl) ((c .before .before .before .before .before .before .before .before .before .before .before .before .before .before .before .put-bare2) .ensures call.tag refl) ((c .before .before .before .before .before .before .before .before .before .before .transform-element-name) .ensures _ refl) ((c .before .before .before .before .automatic-name) .ensures _ refl) ((c .before .before .before .closing) .ensures))
+
+bare-automatic-short : (t : ℕ) (c : bare-automatic-lts.Start (bare-automatic-claims t) (bare-automatic-at t) bare-automatic.Post)
+    → (length (c .args .calls .now) ≤ 2 ^ 63) × (length (c .args .notices .now) ≤ 2 ^ 63) × (length (c .args .tape .now) ≤ 2 ^ 63)
+bare-automatic-short t c = (omega arith, omega arith, omega arith)
 
 bare-automatic-put-byte-requires : (t : ℕ) → bare-automatic-lts.Need-put-byte-requires (bare-automatic-claims t) (bare-automatic-at t) bare-automatic.Post
 bare-automatic-put-byte-requires t c κs = search needs
@@ -707,7 +729,7 @@ bare-automatic-put-bare-requires : (t : ℕ) → bare-automatic-lts.Need-put-bar
 bare-automatic-put-bare-requires t c κs = search needs
 
 bare-automatic-child-object-requires : (t : ℕ) → bare-automatic-lts.Need-child-object-requires (bare-automatic-claims t) (bare-automatic-at t) bare-automatic.Post
-bare-automatic-child-object-requires t c κs = ?
+bare-automatic-child-object-requires t c κs = (omega (arith, (c .before .before .before .before .before .before .before .before .before .before .before .before .before .before .pre) .0), (c .before .before .before .before .before .before .before .before .before .before .before .before .before .before .pre) .1)
 
 bare-automatic-no-key-requires : (t : ℕ) → bare-automatic-lts.Need-no-key-requires (bare-automatic-claims t) (bare-automatic-at t) bare-automatic.Post
 bare-automatic-no-key-requires t c κs = search needs
@@ -729,13 +751,18 @@ bare-automatic-closing-requires : (t : ℕ) → bare-automatic-lts.Need-closing-
 bare-automatic-closing-requires t c κs = search needs
 
 bare-automatic-same-length : (t : ℕ) → bare-automatic-lts.Need-same-length (bare-automatic-claims t) (bare-automatic-at t) bare-automatic.Post
-bare-automatic-same-length t c = ?
+bare-automatic-same-length t c = (c .before .before .closing) .kept .1 .0 ∙ (c .before .before .before .before .before .before .before .get-fragment) .kept .1 .0 ∙ (c .before .before .before .before .before .before .before .before .before .before .before .put-bare2) .kept .0 ∙ (c .before .before .before .before .before .before .before .before .before .before .before .before .before .before .before .static-children) .kept .1 .0 ∙ (c .before .before .before .before .before .before .before .before .before .before .before .before .before .before .before .before .before .before .before .no-key) .kept .1 .0 ∙ (c .before .before .before .before .before .before .before .before .before .before .before .before .before .before .before .before .before .before .before .before .before .before .before .before .before .before .child-object) .kept .1 .1 .1 .1 .0 ∙ (c .before .before .before .before .before .before .before .before .before .before .before .before .before .before .before .before .before .before .before .before .before .before .before .before .before .before .before .before .before .before .before .put-bare) .kept .0 ∙ (c .before .before .before .before .before .before .before .before .before .before .before .before .before .before .before .before .before .before .before .before .before .before .before .before .before .before .before .before .before .before .before .before .before .before .before .put-byte) .kept .0
 
 bare-automatic-same-length-2 : (t : ℕ) → bare-automatic-lts.Need-same-length-2 (bare-automatic-claims t) (bare-automatic-at t) bare-automatic.Post
-bare-automatic-same-length-2 t c = ?
+bare-automatic-same-length-2 t c = (c .before .before .before .before .before .before .before .before .before .before .before .before .before .before .before .before .before .before .before .before .before .before .before .before .before .before .child-object) .kept .1 .1 .1 .1 .1 .0
 
 bare-automatic-returns : (t : ℕ) → bare-automatic-lts.Need-returns (bare-automatic-claims t) (bare-automatic-at t) bare-automatic.Post
-bare-automatic-returns t c = ?
+unfolding call.bareCode call.byteCode
+bare-automatic-returns t c = ((c .before .before .before .before .before .before .before .before .before .before .before .before .before .before .before .before .before .before .before .before .before .before .before .before .before .before .child-object) .ensures .0 .0, λ f d k u h e. bare-automatic-call _ (bare-automatic-short t (c .before .before .before .before .before .before .before .before .before .before .before .before .before .before .before .before .before .before .before .before .before .before .before .before .before .before .before .before .before .before .before .before .before .before .before .before .before .before .before .before .before) .0) (bare-automatic-short t (c .before .before .before .before .before .before .before .before .before .before .before .before .before .before .before .before .before .before .before .before .before .before .before .before .before .before .before .before .before .before .before .before .before .before .before .before .before .before .before .before .before) .1) k ((c .before .before .before .before .before .before .before .before .before .before .before .before .before .before .before .before .before .before .before .before .before .before .before .before .before .before .before .before .before .before .before .before .before .before .before .put-byte) .ensures call.call refl) ((c .before .before .before .before .before .before .before .before .before .before .before .before .before .before .before .before .before .before .before .before .before .before .before .before .before .before .before .before .before .before .before .put-bare) .ensures call.objectBegin refl) ((c .before .before .before .before .before .before .before .before .before .before .before .before .before .before .before .before .before .before .before .before .before .before .before .before .before .before .child-object) .ensures .1 f d k u h e) ((c .before .before .before .before .before .before .before .before .before .before .before .before .before .before .before .before .before .before .before .no-key) .ensures _ refl) ((c .before .before .before .before .before .before .before .before .before .before .before .before .before .before .before .static-children) .ensures _ refl) ((c .before .before .before .before .before .before .before .before .before .before .before .put-bare2) .ensures call.tag refl) ((c .before .before .before .before .before .before .before .get-fragment) .ensures) ((c .before .before .before .automatic-name) .ensures _ refl) ((c .before .before .closing) .ensures))
+
+bare-classic-short : (t : ℕ) (c : bare-classic-lts.Start (bare-classic-claims t) (bare-classic-at t) bare-classic.Post)
+    → (length (c .args .calls .now) ≤ 2 ^ 63) × (length (c .args .notices .now) ≤ 2 ^ 63) × (length (c .args .tape .now) ≤ 2 ^ 63)
+bare-classic-short t c = (omega arith, omega arith, omega arith)
 
 bare-classic-put-byte-requires : (t : ℕ) → bare-classic-lts.Need-put-byte-requires (bare-classic-claims t) (bare-classic-at t) bare-classic.Post
 bare-classic-put-byte-requires t c κs = search needs
@@ -744,7 +771,7 @@ bare-classic-put-bare-requires : (t : ℕ) → bare-classic-lts.Need-put-bare-re
 bare-classic-put-bare-requires t c κs = search needs
 
 bare-classic-children-requires : (t : ℕ) → bare-classic-lts.Need-children-requires (bare-classic-claims t) (bare-classic-at t) bare-classic.Post
-bare-classic-children-requires t c κs = ?
+bare-classic-children-requires t c κs = (omega (arith, (c .before .before .before .before .before .before .before .before .before .before .before .before .before .before .pre) .0), (c .before .before .before .before .before .before .before .before .before .before .before .before .before .before .pre) .1)
 
 bare-classic-put-bare-requires-2 : (t : ℕ) → bare-classic-lts.Need-put-bare-requires-2 (bare-classic-claims t) (bare-classic-at t) bare-classic.Post
 bare-classic-put-bare-requires-2 t c κs = search needs
@@ -756,13 +783,14 @@ bare-classic-closing-requires : (t : ℕ) → bare-classic-lts.Need-closing-requ
 bare-classic-closing-requires t c κs = search needs
 
 bare-classic-same-length : (t : ℕ) → bare-classic-lts.Need-same-length (bare-classic-claims t) (bare-classic-at t) bare-classic.Post
-bare-classic-same-length t c = ?
+bare-classic-same-length t c = (c .before .before .closing) .kept .1 .0 ∙ (c .before .before .before .before .before .before .get-fragment) .kept .1 .0 ∙ (c .before .before .before .before .before .before .before .before .before .before .put-bare2) .kept .0 ∙ (c .before .before .before .before .before .before .before .before .before .before .before .before .before .before .before .before .before .children) .kept .1 .1 .1 .1 .0 ∙ (c .before .before .before .before .before .before .before .before .before .before .before .before .before .before .before .before .before .before .before .before .before .before .put-bare) .kept .0 ∙ (c .before .before .before .before .before .before .before .before .before .before .before .before .before .before .before .before .before .before .before .before .before .before .before .before .before .before .put-byte) .kept .0
 
 bare-classic-same-length-2 : (t : ℕ) → bare-classic-lts.Need-same-length-2 (bare-classic-claims t) (bare-classic-at t) bare-classic.Post
 bare-classic-same-length-2 t c = search needs
 
 bare-classic-returns : (t : ℕ) → bare-classic-lts.Need-returns (bare-classic-claims t) (bare-classic-at t) bare-classic.Post
-bare-classic-returns t c = ?
+unfolding call.bareCode call.byteCode
+bare-classic-returns t c = ((c .before .before .before .before .before .before .before .before .before .before .before .before .before .before .before .before .before .children) .ensures .0 .0, λ f d k u h e. bare-classic-call _ (bare-classic-short t (c .before .before .before .before .before .before .before .before .before .before .before .before .before .before .before .before .before .before .before .before .before .before .before .before .before .before .before .before .before .before .before .before) .0) (bare-classic-short t (c .before .before .before .before .before .before .before .before .before .before .before .before .before .before .before .before .before .before .before .before .before .before .before .before .before .before .before .before .before .before .before .before) .1) k ((c .before .before .before .before .before .before .before .before .before .before .before .before .before .before .before .before .before .before .before .before .before .before .before .before .before .before .put-byte) .ensures call.call refl) ((c .before .before .before .before .before .before .before .before .before .before .before .before .before .before .before .before .before .before .before .before .before .before .put-bare) .ensures call.null refl) ((c .before .before .before .before .before .before .before .before .before .before .before .before .before .before .before .before .before .children) .ensures .1 f d k u h e) ((c .before .before .before .before .before .before .before .before .before .before .put-bare2) .ensures call.tag refl) ((c .before .before .before .before .before .before .get-fragment) .ensures) ((c .before .before .closing) .ensures))
 
 child-object-put-bare-requires : (t : ℕ) → child-object-lts.Need-put-bare-requires (child-object-claims t) (child-object-at t) child-object.Post
 child-object-put-bare-requires t c κs = search needs
@@ -845,35 +873,43 @@ children-loop-less t c = omega (arith, kid-fits (context ((c .before .before .be
 children-loop-again : (t : ℕ) → children-lts.Need-loop-again (children-claims t) (children-at t) children.Post children-Inv-loop children-μ-loop
 children-loop-again t c = kids-go (context ((c .before .before .before .before .before .before .before .before .before .before .before .before .before .before .before .before .before .before .args) .text .now) ((c .before .before .before .before .before .before .before .before .before .before .before .before .before .before .before .before .before .before .args) .settings) ((c .before .before .before .before .before .before .before .before .before .before .before .before .before .before .before .before .before .before .args) .allowed)) ((c .before .before .before .before .before .before .before .before .before .before .before .before .before .before .before .before .before .before .args) .tape .now) ((c .before .before .before .before .before .before .before .before .before .before .before .before .before .loop) .inv) _ (tail-part ((c .before .before .before .before .before .before .before .before .before .before .before .before .before .before .before .before .before .before .args) .tape .now) ((c .before .before .before .before .before .before .before .before .before .before .before .before .before .loop) .i)) ((c .before .before .before .before .before .before .before .before .before .transform-jsx-child) .result) ((c .before .before .before .before .before .before .before .before .before .transform-jsx-child) .ensures .0 .0) ((c .before .before .before .before .before .before .before .before .before .transform-jsx-child) .ensures .0 .1) ((c .before .before .before .before .before .before .before .before .before .transform-jsx-child) .ensures .1) (omega (arith, (c .before .before .before .before .before .before .before .before .before .before .before .before .before .before .before .before .before .before))) (omega (arith, (c .before .before .before .before .before .before .before .before .before .before .before .before .before .before .before .before .before .before))) ((c .before .before .before .before .before .before .before .before .before .transform-jsx-child) .kept .1 .1 .1 .1 .0) ((c .before .before .before .before .before .before .before .before .before .transform-jsx-child) .kept .1 .1 .1 .1 .1 .0) ((c .if1) .left)
 
+classic-call-short : (t : ℕ) (c : classic-call-lts.Start (classic-call-claims t) (classic-call-at t) classic-call.Post)
+    → (length (c .args .calls .now) ≤ 2 ^ 63) × (length (c .args .notices .now) ≤ 2 ^ 63) × (length (c .args .tape .now) ≤ 2 ^ 63)
+classic-call-short t c = (omega arith, omega arith, omega arith)
+
 classic-call-put-byte-requires : (t : ℕ) → classic-call-lts.Need-put-byte-requires (classic-call-claims t) (classic-call-at t) classic-call.Post
 classic-call-put-byte-requires t c κs = search needs
 
 classic-call-sub-argument : (t : ℕ) → classic-call-lts.Need-sub-argument (classic-call-claims t) (classic-call-at t) classic-call.Post
-classic-call-sub-argument t c = ?
+classic-call-sub-argument t c = (c .before .before .before .before .before .before .before .before .pre) .1 .1 .1
 
 classic-call-part-argument-start : (t : ℕ) → classic-call-lts.Need-part-argument-start (classic-call-claims t) (classic-call-at t) classic-call.Post
-classic-call-part-argument-start t c = ?
+classic-call-part-argument-start t c = omega (arith, (c .before .before .before .before .before .before .before .before .pre) .1 .1 .1)
 
 classic-call-part-argument-end : (t : ℕ) → classic-call-lts.Need-part-argument-end (classic-call-claims t) (classic-call-at t) classic-call.Post
 classic-call-part-argument-end t c = search needs
 
 classic-call-argument-requires : (t : ℕ) → classic-call-lts.Need-argument-requires (classic-call-claims t) (classic-call-at t) classic-call.Post
-classic-call-argument-requires t c κs = ?
+classic-call-argument-requires t c κs = (omega (arith, (c .before .before .before .before .before .before .before .before .before .before .before .pre) .0, part-length ((c .before .before .before .before .before .before .before .before .before .before .before .args) .at) ((c .before .before .before .before .before .before .before .before .before .before .before .args) .tape .now)), ((c .before .before .before .before .before .before .before .before .before .before .before .pre) .1 .0, (c .before .before .before .before .before .before .before .before .before .before .before .pre) .1 .1 .0))
+
+classic-call-parted : (t : ℕ) (c : classic-call-lts.After-argument (classic-call-claims t) (classic-call-at t) classic-call.Post)
+    → c .before .before .before .before .before .before .before .before .before .before .before .before .args .at + c .argument .result .used ≤ length (c .before .before .before .before .before .before .before .before .before .before .before .before .args .tape .now)
+classic-call-parted t c = part-inside (c .before .before .before .before .before .before .before .before .before .before .before .before .args .tape .now) (c .before .before .before .before .before .before .before .before .before .before .before .before .args .at) (c .argument .result .used) (c .before .before .before .before .before .before .before .before .before .before .before .before .pre .1 .1 .1) (c .argument .ensures .0)
 
 classic-call-add-from : (t : ℕ) → classic-call-lts.Need-add-from (classic-call-claims t) (classic-call-at t) classic-call.Post
-classic-call-add-from t c = ?
+classic-call-add-from t c = omega (arith, classic-call-parted t (c .before .before .before .before .before .before), classic-call-short t (c .before .before .before .before .before .before .before .before .before .before .before .before .before .before .before .before .before .before) .2)
 
 classic-call-sub-children : (t : ℕ) → classic-call-lts.Need-sub-children (classic-call-claims t) (classic-call-at t) classic-call.Post
-classic-call-sub-children t c = ?
+classic-call-sub-children t c = classic-call-parted t (c .before .before .before .before .before .before)
 
 classic-call-part-children-start : (t : ℕ) → classic-call-lts.Need-part-children-start (classic-call-claims t) (classic-call-at t) classic-call.Post
-classic-call-part-children-start t c = ?
+classic-call-part-children-start t c = omega (arith, classic-call-parted t (c .before .before .before .before .before .before))
 
 classic-call-part-children-end : (t : ℕ) → classic-call-lts.Need-part-children-end (classic-call-claims t) (classic-call-at t) classic-call.Post
 classic-call-part-children-end t c = search needs
 
 classic-call-children-requires : (t : ℕ) → classic-call-lts.Need-children-requires (classic-call-claims t) (classic-call-at t) classic-call.Post
-classic-call-children-requires t c κs = ?
+classic-call-children-requires t c κs = (omega (arith, (c .before .before .before .before .before .before .before .before .before .before .before .before .before .before .before .before .before .before .before .before .before .pre) .0, part-length ((c .before .before .before .before .before .before .before .before .before .before .before .before .before .before .before .before .before .before .before .before .before .args) .at + (c .before .before .before .before .before .before .before .before .before .argument) .result .used) ((c .before .before .before .before .before .before .before .before .before .before .before .before .before .before .before .before .before .before .before .before .before .args) .tape .now)), ((c .before .before .before .before .before .before .before .before .before .before .before .before .before .before .before .before .before .before .before .before .before .pre) .1 .0, (c .before .before .before .before .before .before .before .before .before .before .before .before .before .before .before .before .before .before .before .before .before .pre) .1 .1 .0))
 
 classic-call-put-bare-requires : (t : ℕ) → classic-call-lts.Need-put-bare-requires (classic-call-claims t) (classic-call-at t) classic-call.Post
 classic-call-put-bare-requires t c κs = search needs
@@ -885,17 +921,22 @@ classic-call-transform-element-name-requires t c κs = search needs
 classic-call-closing-requires : (t : ℕ) → classic-call-lts.Need-closing-requires (classic-call-claims t) (classic-call-at t) classic-call.Post
 classic-call-closing-requires t c κs = search needs
 
+classic-call-whole : (t : ℕ) (c : classic-call-lts.After-children (classic-call-claims t) (classic-call-at t) classic-call.Post)
+    → c .before .before .before .before .before .before .before .before .before .before .before .before .before .before .before .before .before .before .before .before .before .before .args .at + c .before .before .before .before .before .before .before .before .before .before .argument .result .used + c .children .result .used ≤ length (c .before .before .before .before .before .before .before .before .before .before .before .before .before .before .before .before .before .before .before .before .before .before .args .tape .now)
+classic-call-whole t c = part-inside (c .before .before .before .before .before .before .before .before .before .before .before .before .before .before .before .before .before .before .before .before .before .before .args .tape .now) (c .before .before .before .before .before .before .before .before .before .before .before .before .before .before .before .before .before .before .before .before .before .before .args .at + c .before .before .before .before .before .before .before .before .before .before .argument .result .used) (c .children .result .used) (classic-call-parted t (c .before .before .before .before .before .before .before .before .before .before)) (c .children .ensures .0 .0)
+
 classic-call-add-t22 : (t : ℕ) → classic-call-lts.Need-add-t22 (classic-call-claims t) (classic-call-at t) classic-call.Post
-classic-call-add-t22 t c = ?
+classic-call-add-t22 t c = omega (arith, classic-call-whole t (c .before .before .before .before .before .before .before .before .before .before .before .before .before .before .before .before .before .before .before .before .before), classic-call-short t (c .before .before .before .before .before .before .before .before .before .before .before .before .before .before .before .before .before .before .before .before .before .before .before .before .before .before .before .before .before .before .before .before .before .before .before .before .before .before .before .before .before .before .before) .2)
 
 classic-call-same-length : (t : ℕ) → classic-call-lts.Need-same-length (classic-call-claims t) (classic-call-at t) classic-call.Post
-classic-call-same-length t c = ?
+classic-call-same-length t c = (c .before .before .before .closing) .kept .1 .0 ∙ (c .before .before .before .before .before .before .before .before .before .transform-element-name) .kept .1 .1 .0 ∙ (c .before .before .before .before .before .before .before .before .before .before .before .before .before .before .put-bare) .kept .0 ∙ (c .before .before .before .before .before .before .before .before .before .before .before .before .before .before .before .before .before .before .before .before .before .children) .kept .1 .1 .1 .1 .0 ∙ (c .before .before .before .before .before .before .before .before .before .before .before .before .before .before .before .before .before .before .before .before .before .before .before .before .before .before .before .before .before .before .before .argument) .kept .1 .1 .1 .1 .1 .0 ∙ (c .before .before .before .before .before .before .before .before .before .before .before .before .before .before .before .before .before .before .before .before .before .before .before .before .before .before .before .before .before .before .before .before .before .before .before .before .before .put-byte) .kept .0
 
 classic-call-same-length-2 : (t : ℕ) → classic-call-lts.Need-same-length-2 (classic-call-claims t) (classic-call-at t) classic-call.Post
-classic-call-same-length-2 t c = ?
+classic-call-same-length-2 t c = (c .before .before .before .before .before .before .before .before .before .transform-element-name) .kept .1 .1 .1 .0 ∙ (c .before .before .before .before .before .before .before .before .before .before .before .before .before .before .before .before .before .before .before .before .before .children) .kept .1 .1 .1 .1 .1 .0 ∙ (c .before .before .before .before .before .before .before .before .before .before .before .before .before .before .before .before .before .before .before .before .before .before .before .before .before .before .before .before .before .before .before .argument) .kept .1 .1 .1 .1 .1 .1 .0
 
 classic-call-returns : (t : ℕ) → classic-call-lts.Need-returns (classic-call-claims t) (classic-call-at t) classic-call.Post
-classic-call-returns t c = ?
+unfolding call.bareCode call.byteCode
+classic-call-returns t c = (classic-call-whole t (c .before .before .before .before .before .before .before .before .before .before .before .before .before .before .before .before .before .before .before .before .before), λ d f n a v k w P q. classic-element _ _ (classic-call-short t (c .before .before .before .before .before .before .before .before .before .before .before .before .before .before .before .before .before .before .before .before .before .before .before .before .before .before .before .before .before .before .before .before .before .before .before .before .before .before .before .before .before .before .before) .0) (classic-call-short t (c .before .before .before .before .before .before .before .before .before .before .before .before .before .before .before .before .before .before .before .before .before .before .before .before .before .before .before .before .before .before .before .before .before .before .before .before .before .before .before .before .before .before .before) .1) _ _ P q ((c .before .before .before .before .before .before .before .before .before .before .before .before .before .before .before .before .before .before .before .before .before .before .before .before .before .before .before .before .before .before .before .before .before .before .before .before .before .put-byte) .ensures call.call refl) ((c .before .before .before .before .before .before .before .before .before .before .before .before .before .before .before .before .before .before .before .before .before .before .before .before .before .before .before .before .before .before .before .argument) .ensures .1) ((c .before .before .before .before .before .before .before .before .before .before .before .before .before .before .before .before .before .before .before .before .before .children) .ensures .1) ((c .before .before .before .before .before .before .before .before .before .before .before .before .before .before .put-bare) .ensures call.tag refl) ((c .before .before .before .before .before .before .before .before .before .transform-element-name) .ensures _ refl) ((c .before .before .before .closing) .ensures))
 
 key-value-short : (t : ℕ) (c : key-value-lts.Start (key-value-claims t) (key-value-at t) key-value.Post) → (length (c .args .calls .now) ≤ 2 ^ 63) × (length (c .args .notices .now) ≤ 2 ^ 63)
 key-value-short t c = (omega arith, omega arith)
@@ -938,11 +979,15 @@ key-value-returns-2 : (t : ℕ) → key-value-lts.Need-returns-2 (key-value-clai
 unfolding bareCode
 key-value-returns-2 t c = key-some ((c .before .before .before .before .before .before .before .before .before .before .before .before .before .before .before .before .before .before .args) .key) ((c .before .before .before .before .before .before .before .before .before .before .before .before .before .before .before .before .before .before .pre) .1 .1 .1) (key-value-short t (c .before .before .before .before .before .before .before .before .before .before .before .before .before .before .before .before .before .before) .0) (key-value-short t (c .before .before .before .before .before .before .before .before .before .before .before .before .before .before .before .before .before .before) .1) ((c .before .before .before .before .before .before .before .before .before .before .before .before .before .if1) .left) ((c .before .before .before .before .before .before .before .before .before .before .before .put-bare) .ensures call.key refl) ((c .before .before .before .before .before .transform-jsx-attribute-value) .ensures .1)
 
+object-or-null-short : (t : ℕ) (c : object-or-null-lts.Start (object-or-null-claims t) (object-or-null-at t) object-or-null.Post)
+    → (length (c .args .calls .now) ≤ 2 ^ 63) × (length (c .args .notices .now) ≤ 2 ^ 63) × (length (c .args .tape .now) ≤ 2 ^ 63)
+object-or-null-short t c = (omega arith, omega arith, omega arith)
+
 object-or-null-put-bare-requires : (t : ℕ) → object-or-null-lts.Need-put-bare-requires (object-or-null-claims t) (object-or-null-at t) object-or-null.Post
 object-or-null-put-bare-requires t c κs = search needs
 
 object-or-null-attributes-requires : (t : ℕ) → object-or-null-lts.Need-attributes-requires (object-or-null-claims t) (object-or-null-at t) object-or-null.Post
-object-or-null-attributes-requires t c κs = ?
+object-or-null-attributes-requires t c κs = (omega (arith, (c .before .before .before .before .before .before .before .before .before .before .pre) .0), (c .before .before .before .before .before .before .before .before .before .before .pre) .1)
 
 object-or-null-self-output-requires : (t : ℕ) → object-or-null-lts.Need-self-output-requires (object-or-null-claims t) (object-or-null-at t) object-or-null.Post
 object-or-null-self-output-requires t c κs = search needs
@@ -957,25 +1002,27 @@ object-or-null-put-bare-requires-2 : (t : ℕ) → object-or-null-lts.Need-put-b
 object-or-null-put-bare-requires-2 t c κs = search needs
 
 object-or-null-same-length : (t : ℕ) → object-or-null-lts.Need-same-length (object-or-null-claims t) (object-or-null-at t) object-or-null.Post
-object-or-null-same-length t c = ?
+object-or-null-same-length t c = (c .before .before .put-bare2) .kept .0 ∙ (c .before .before .before .before .before .before .before .before .source-output) .kept .1 .0 ∙ (c .before .before .before .before .before .before .before .before .before .before .before .before .self-output) .kept .1 .1 .0 ∙ (c .before .before .before .before .before .before .before .before .before .before .before .before .before .before .before .before .before .before .before .attributes) .kept .1 .1 .1 .1 .1 .0 ∙ (c .before .before .before .before .before .before .before .before .before .before .before .before .before .before .before .before .before .before .before .before .before .before .before .before .put-bare) .kept .0
 
 object-or-null-same-length-2 : (t : ℕ) → object-or-null-lts.Need-same-length-2 (object-or-null-claims t) (object-or-null-at t) object-or-null.Post
 object-or-null-same-length-2 t c = search needs
 
 object-or-null-returns : (t : ℕ) → object-or-null-lts.Need-returns (object-or-null-claims t) (object-or-null-at t) object-or-null.Post
-object-or-null-returns t c = ?
+unfolding call.bareCode
+object-or-null-returns t c = ((c .before .before .before .before .before .before .before .before .before .before .before .before .before .before .before .before .before .before .before .attributes) .ensures .0 .0, λ d f a u h e q. some-object _ _ a (object-or-null-short t (c .before .before .before .before .before .before .before .before .before .before .before .before .before .before .before .before .before .before .before .before .before .before .before .before .before .before .before .before .before .before) .0) (kept-short ((c .before .before .before .before .before .before .before .before .before .before .before .before .before .before .before .before .before .before .before .before .before .before .before .before .put-bare) .kept .0) (object-or-null-short t (c .before .before .before .before .before .before .before .before .before .before .before .before .before .before .before .before .before .before .before .before .before .before .before .before .before .before .before .before .before .before) .0)) (object-or-null-short t (c .before .before .before .before .before .before .before .before .before .before .before .before .before .before .before .before .before .before .before .before .before .before .before .before .before .before .before .before .before .before) .1) ((c .before .before .before .before .before .before .before .before .before .before .before .before .before .before .before .before .before .before .before .before .before .before .before .before .put-bare) .ensures call.objectBegin refl) ((c .before .before .before .before .before .before .before .before .before .before .before .before .before .before .before .before .before .before .before .attributes) .ensures .1 f d a u h e) ((c .before .before .before .before .before .before .before .before .before .before .before .before .self-output) .ensures _ refl refl) ((c .before .before .before .before .before .before .before .before .source-output) .ensures _ refl (q .line) (q .column)) (λ os i. (c .before .before .before .before .before .has-more) .ensures _ refl refl _ os i) ((c .before .before .before .before .if1) .taken) ((c .before .before .put-bare2) .ensures call.objectEnd refl))
 
 object-or-null-put-bare-requires-3 : (t : ℕ) → object-or-null-lts.Need-put-bare-requires-3 (object-or-null-claims t) (object-or-null-at t) object-or-null.Post
 object-or-null-put-bare-requires-3 t c κs = search needs
 
 object-or-null-same-length-3 : (t : ℕ) → object-or-null-lts.Need-same-length-3 (object-or-null-claims t) (object-or-null-at t) object-or-null.Post
-object-or-null-same-length-3 t c = ?
+object-or-null-same-length-3 t c = (c .before .before .put-bare3) .kept .0 ∙ (c .before .before .before .before .before .before .before .before .source-output) .kept .1 .0 ∙ (c .before .before .before .before .before .before .before .before .before .before .before .before .self-output) .kept .1 .1 .0 ∙ (c .before .before .before .before .before .before .before .before .before .before .before .before .before .before .before .before .before .before .before .attributes) .kept .1 .1 .1 .1 .1 .0 ∙ (c .before .before .before .before .before .before .before .before .before .before .before .before .before .before .before .before .before .before .before .before .before .before .before .before .put-bare) .kept .0
 
 object-or-null-same-length-4 : (t : ℕ) → object-or-null-lts.Need-same-length-4 (object-or-null-claims t) (object-or-null-at t) object-or-null.Post
 object-or-null-same-length-4 t c = search needs
 
 object-or-null-returns-2 : (t : ℕ) → object-or-null-lts.Need-returns-2 (object-or-null-claims t) (object-or-null-at t) object-or-null.Post
-object-or-null-returns-2 t c = ?
+unfolding call.bareCode
+object-or-null-returns-2 t c = ((c .before .before .before .before .before .before .before .before .before .before .before .before .before .before .before .before .before .before .before .attributes) .ensures .0 .0, λ d f a u h e q. no-object _ _ a (object-or-null-short t (c .before .before .before .before .before .before .before .before .before .before .before .before .before .before .before .before .before .before .before .before .before .before .before .before .before .before .before .before .before .before) .0) (kept-short ((c .before .before .before .before .before .before .before .before .before .before .before .before .before .before .before .before .before .before .before .before .before .before .before .before .put-bare) .kept .0) (object-or-null-short t (c .before .before .before .before .before .before .before .before .before .before .before .before .before .before .before .before .before .before .before .before .before .before .before .before .before .before .before .before .before .before) .0)) (object-or-null-short t (c .before .before .before .before .before .before .before .before .before .before .before .before .before .before .before .before .before .before .before .before .before .before .before .before .before .before .before .before .before .before) .1) ((c .before .before .before .before .before .before .before .before .before .before .before .before .before .before .before .before .before .before .before .before .before .before .before .before .put-bare) .ensures call.objectBegin refl) ((c .before .before .before .before .before .before .before .before .before .before .before .before .before .before .before .before .before .before .before .attributes) .ensures .1 f d a u h e) ((c .before .before .before .before .before .before .before .before .before .before .before .before .self-output) .ensures _ refl refl) ((c .before .before .before .before .before .before .before .before .source-output) .ensures _ refl (q .line) (q .column)) (λ os i. (c .before .before .before .before .before .has-more) .ensures _ refl refl _ os i) ((c .before .before .before .before .if1) .left) ((c .before .before .put-bare3) .ensures call.null refl))
 
 plain-short : (t : ℕ) (c : plain-lts.Start (plain-claims t) (plain-at t) plain.Post) → (length (c .args .calls .now) ≤ 2 ^ 63) × (length (c .args .notices .now) ≤ 2 ^ 63)
 plain-short t c = (omega arith, omega arith)
@@ -1012,7 +1059,7 @@ transform-fragment-is-classic-requires t c κs = search needs
 
 transform-fragment-bare-classic-requires :
     (t : ℕ) → transform-fragment-lts.Need-bare-classic-requires (transform-fragment-claims t) (transform-fragment-at t) transform-fragment.Post
-transform-fragment-bare-classic-requires t c κs = ?
+transform-fragment-bare-classic-requires t c κs = (omega (arith, c .before .before .before .before .before .before .before .before .pre .0), c .before .before .before .before .before .before .before .before .pre .1)
 
 transform-fragment-same-length : (t : ℕ) → transform-fragment-lts.Need-same-length (transform-fragment-claims t) (transform-fragment-at t) transform-fragment.Post
 transform-fragment-same-length t c = search needs
@@ -1021,11 +1068,11 @@ transform-fragment-same-length-2 : (t : ℕ) → transform-fragment-lts.Need-sam
 transform-fragment-same-length-2 t c = search needs
 
 transform-fragment-returns : (t : ℕ) → transform-fragment-lts.Need-returns (transform-fragment-claims t) (transform-fragment-at t) transform-fragment.Post
-transform-fragment-returns t c = ?
+transform-fragment-returns t c = ((c .before .before .before .before .bare-classic) .ensures .0, λ f d place n u h e. fragment-lowered-classic _ _ f d place n u h e (told ((c .before .before .before .before .before .before .before .before .is-classic) .ensures) ((c .before .before .before .before .before .before .before .if1) .taken)) ((c .before .before .before .before .bare-classic) .ensures .1))
 
 transform-fragment-bare-automatic-requires :
     (t : ℕ) → transform-fragment-lts.Need-bare-automatic-requires (transform-fragment-claims t) (transform-fragment-at t) transform-fragment.Post
-transform-fragment-bare-automatic-requires t c κs = ?
+transform-fragment-bare-automatic-requires t c κs = (omega (arith, c .before .before .before .before .before .before .before .before .pre .0), c .before .before .before .before .before .before .before .before .pre .1)
 
 transform-fragment-same-length-3 : (t : ℕ) → transform-fragment-lts.Need-same-length-3 (transform-fragment-claims t) (transform-fragment-at t) transform-fragment.Post
 transform-fragment-same-length-3 t c = search needs
@@ -1034,17 +1081,17 @@ transform-fragment-same-length-4 : (t : ℕ) → transform-fragment-lts.Need-sam
 transform-fragment-same-length-4 t c = search needs
 
 transform-fragment-returns-2 : (t : ℕ) → transform-fragment-lts.Need-returns-2 (transform-fragment-claims t) (transform-fragment-at t) transform-fragment.Post
-transform-fragment-returns-2 t c = ?
+transform-fragment-returns-2 t c = ((c .before .before .before .before .bare-automatic) .ensures .0, λ f d place n u h e. fragment-lowered-automatic _ _ f d place n u h e (told ((c .before .before .before .before .before .before .before .before .is-classic) .ensures) ((c .before .before .before .before .before .before .before .if1) .left)) ((c .before .before .before .before .bare-automatic) .ensures .1))
 
 transform-jsx-skip-name-requires : (t : ℕ) → transform-jsx-lts.Need-skip-name-requires (transform-jsx-claims t) (transform-jsx-at t) transform-jsx.Post
 transform-jsx-skip-name-requires t c κs = search needs
 
 transform-jsx-sub-is-classic-element : (t : ℕ) → transform-jsx-lts.Need-sub-is-classic-element (transform-jsx-claims t) (transform-jsx-at t) transform-jsx.Post
-transform-jsx-sub-is-classic-element t c = ?
+transform-jsx-sub-is-classic-element t c = (c .skip-name) .ensures .0
 
 transform-jsx-part-is-classic-element-start :
     (t : ℕ) → transform-jsx-lts.Need-part-is-classic-element-start (transform-jsx-claims t) (transform-jsx-at t) transform-jsx.Post
-transform-jsx-part-is-classic-element-start t c = ?
+transform-jsx-part-is-classic-element-start t c = omega (arith, (c .skip-name) .ensures .0)
 
 transform-jsx-part-is-classic-element-end :
     (t : ℕ) → transform-jsx-lts.Need-part-is-classic-element-end (transform-jsx-claims t) (transform-jsx-at t) transform-jsx.Post
@@ -1055,7 +1102,7 @@ transform-jsx-is-classic-element-requires :
 transform-jsx-is-classic-element-requires t c κs = search needs
 
 transform-jsx-classic-call-requires : (t : ℕ) → transform-jsx-lts.Need-classic-call-requires (transform-jsx-claims t) (transform-jsx-at t) transform-jsx.Post
-transform-jsx-classic-call-requires t c κs = ?
+transform-jsx-classic-call-requires t c κs = (omega (arith, (c .before .before .before .before .before .before .before .before .before .before .pre) .0), ((c .before .before .before .before .before .before .before .before .before .before .pre) .1 .0, ((c .before .before .before .before .before .before .before .before .before .before .pre) .1 .1, (c .before .before .before .before .before .skip-name) .ensures .0)))
 
 transform-jsx-same-length : (t : ℕ) → transform-jsx-lts.Need-same-length (transform-jsx-claims t) (transform-jsx-at t) transform-jsx.Post
 transform-jsx-same-length t c = search needs
@@ -1064,10 +1111,10 @@ transform-jsx-same-length-2 : (t : ℕ) → transform-jsx-lts.Need-same-length-2
 transform-jsx-same-length-2 t c = search needs
 
 transform-jsx-returns : (t : ℕ) → transform-jsx-lts.Need-returns (transform-jsx-claims t) (transform-jsx-at t) transform-jsx.Post
-transform-jsx-returns t c = ?
+transform-jsx-returns t c = ((c .before .before .before .before .classic-call) .ensures .0, λ f d n u h e q. element-lowered-classic _ _ _ _ f d n u h e ((c .before .before .before .before .before .before .before .before .before .before .skip-name) .ensures .1) ((c .before .before .before .before .before .before .before .before .is-classic-element) .ensures _ refl refl) ((c .before .before .before .before .before .before .before .if1) .taken) q ((c .before .before .before .before .classic-call) .ensures .1))
 
 transform-jsx-automatic-call-requires : (t : ℕ) → transform-jsx-lts.Need-automatic-call-requires (transform-jsx-claims t) (transform-jsx-at t) transform-jsx.Post
-transform-jsx-automatic-call-requires t c κs = ?
+transform-jsx-automatic-call-requires t c κs = (omega (arith, (c .before .before .before .before .before .before .before .before .before .before .pre) .0), ((c .before .before .before .before .before .before .before .before .before .before .pre) .1 .0, ((c .before .before .before .before .before .before .before .before .before .before .pre) .1 .1, (c .before .before .before .before .before .skip-name) .ensures .0)))
 
 transform-jsx-same-length-3 : (t : ℕ) → transform-jsx-lts.Need-same-length-3 (transform-jsx-claims t) (transform-jsx-at t) transform-jsx.Post
 transform-jsx-same-length-3 t c = search needs
@@ -1076,7 +1123,7 @@ transform-jsx-same-length-4 : (t : ℕ) → transform-jsx-lts.Need-same-length-4
 transform-jsx-same-length-4 t c = search needs
 
 transform-jsx-returns-2 : (t : ℕ) → transform-jsx-lts.Need-returns-2 (transform-jsx-claims t) (transform-jsx-at t) transform-jsx.Post
-transform-jsx-returns-2 t c = ?
+transform-jsx-returns-2 t c = ((c .before .before .before .before .automatic-call) .ensures .0, λ f d n u h e q. element-lowered-automatic _ _ _ _ f d n u h e ((c .before .before .before .before .before .before .before .before .before .before .skip-name) .ensures .1) ((c .before .before .before .before .before .before .before .before .is-classic-element) .ensures _ refl refl) ((c .before .before .before .before .before .before .before .if1) .left) q ((c .before .before .before .before .automatic-call) .ensures .1))
 
 transform-jsx-attribute-value-value-command-at-requires :
     (t : ℕ) → transform-jsx-attribute-value-lts.Need-value-command-at-requires (transform-jsx-attribute-value-claims t) (transform-jsx-attribute-value-at t) transform-jsx-attribute-value.Post
