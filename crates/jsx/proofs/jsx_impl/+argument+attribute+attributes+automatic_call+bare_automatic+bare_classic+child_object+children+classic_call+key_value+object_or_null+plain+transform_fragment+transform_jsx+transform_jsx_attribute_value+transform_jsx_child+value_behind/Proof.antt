@@ -18,9 +18,6 @@ use mathlib.Core.Path.{_≡_, refl, sym, ap, subst, _∙_}
 use lib.ListN.{length, getD, take, drop}
 use borrow.Fn.Kinds.{In}
 use borrow.Fn.PlainCycle.{Measures, is, falls, and}
-use Rattle.text.proofs.Lists.{told}
-use Rattle.definitions.specs.Calls as call
-use Rattle.roots.proofs.Behind.{part-length}
 use Rattle.jsx.proofs.Calling.{part-inside, kept-short, sole-inside, sole-argument, object-argument, some-object, no-object, classic-element, automatic-element, bare-classic-call, bare-automatic-call, element-lowered-classic, element-lowered-automatic, fragment-lowered-classic, fragment-lowered-automatic}
 use Rattle.jsx.proofs.jsx_impl.argument.Reads as argument
 use Rattle.jsx.proofs.jsx_impl.argument.Kinds as argument-kinds
