@@ -7,3 +7,4 @@ pub mod Lowerings
 pub mod Attributing
 pub mod Calling
 pub mod Parenting
+pub mod Heads

@@ -29,7 +29,7 @@ use Rattle.jsx.proofs.Turns.{Left, left-start, left-goes, left-ends}
 use Rattle.jsx.proofs.Lowerings.{node-written, step-on, step-end, text-counts, expression-counts, empty-counts, spread-counts, node-counts, no-survivors, children-none, children-some}
 
 -- a place whose numbers are not the greatest
-countable : (p : Place) → p .line < 4294967296 → p .column < 4294967296 → (p .line ≡ 4294967295 → ⊥) → (p .column ≡ 4294967295 → ⊥) → Countable p
+pub countable : (p : Place) → p .line < 4294967296 → p .column < 4294967296 → (p .line ≡ 4294967295 → ⊥) → (p .column ≡ 4294967295 → ⊥) → Countable p
 countable p l k h i = record { line = below (p .line) l h; column = below (p .column) k i }
   where
     below : (n : ℕ) → n < 4294967296 → (n ≡ 4294967295 → ⊥) → n < 4294967295

@@ -22,33 +22,29 @@ ghost use Rattle.emit.specs.Emitting.{Called, Noticed, Produced};
 ghost use Rattle.emit.specs.Heads.{NodeAt};
 ghost use Rattle.jsx.specs.Parts.{context, Written, Countable, Moves, ChildStep, ChildrenWritten, AttributeStep, AttributesWritten, KeyAt, Parts, SoleAt, IsText, TextWritten, LiteralWritten, someOutput, childrenObject, automaticElement, classicProperties, classicCallOf, classicFragment, automaticFragment, Alone, LoneWithin, FrontWithin, FrontIs};
 use commands::root::AttributeCommand;
+use commands::root::ChildCommand;
 use commands::root::MemberCommand;
 use commands::root::NameCommand;
+use commands::root::Place;
 use commands::root::PropertyCommand;
+use commands::root::ScopeCommand;
 use commands::root::ValueCommand;
 use commands::root::attribute_command_at;
+use commands::root::child_command_at;
 use commands::root::member_command_at;
 use commands::root::name_command_at;
 use commands::root::property_command_at;
+use commands::root::scope_command_at;
 use commands::root::value_command_at;
 use definitions::options::Mode;
 use definitions::options::Settings;
 use emit::diagnostics::valueless_key;
-use emit::jsx_impl::has_proto;
-use emit::jsx_impl::lower_literal;
-use emit::pen::Pen;
-use jsx_text::fixup_whitespace_and_decode_entities;
-use roots::skip::skip_properties;
-use roots::skip::skip_value;
-use text::bytes::same;
-use text::spans::Bounds;
-use text::spans::Span;
-use text::spans::part;
-use text::spans::span_bounds;
 use emit::jsx_impl::automatic_name;
 use emit::jsx_impl::closing;
 use emit::jsx_impl::get_attribute_name;
 use emit::jsx_impl::get_fragment;
+use emit::jsx_impl::has_proto;
+use emit::jsx_impl::lower_literal;
 use emit::jsx_impl::no_key;
 use emit::jsx_impl::put_namespaced;
 use emit::jsx_impl::put_string;
@@ -57,14 +53,18 @@ use emit::jsx_impl::transform_element_name;
 use emit::jsx_self::root_head;
 use emit::jsx_self::self_output;
 use emit::jsx_source::source_output;
+use emit::pen::Pen;
 use emit::pen::put_bare;
 use emit::pen::put_byte;
 use emit::pen::put_over;
-use commands::root::ChildCommand;
-use commands::root::ScopeCommand;
-use commands::root::Place;
-use commands::root::child_command_at;
-use commands::root::scope_command_at;
+use jsx_text::fixup_whitespace_and_decode_entities;
+use roots::skip::skip_properties;
+use roots::skip::skip_value;
+use text::bytes::same;
+use text::spans::Bounds;
+use text::spans::Span;
+use text::spans::part;
+use text::spans::span_bounds;
 
 // A tree was lowered: where writing goes on, and how many bytes of the tape it took.
 pub struct Lowered {
@@ -475,7 +475,15 @@ fn transform_jsx_text(text: &[u8], span: Span, calls: &mut [u8], pen: Pen) -> It
 // ---- the recursion
 
 // A value of an attribute.
-fn transform_jsx_attribute_value(text: &[u8], settings: Settings, allowed: bool, tape: &[u8], calls: &mut [u8], notices: &mut [u8], pen: Pen) -> Lowered
+fn transform_jsx_attribute_value(
+    text: &[u8],
+    settings: Settings,
+    allowed: bool,
+    tape: &[u8],
+    calls: &mut [u8],
+    notices: &mut [u8],
+    pen: Pen,
+) -> Lowered
     requires { ⌜ length (now text) ≤ 65535 ⌝ }
     requires { ⌜ firstIll (now text) ≡ Nothing ⌝ }
     ensures { λ r. ⌜ r .used ≤ length (now (tape .entry)) ⌝ }
@@ -501,14 +509,29 @@ fn transform_jsx_attribute_value(text: &[u8], settings: Settings, allowed: bool,
             Lowered { pen: end, used: 1 }
         }
         ValueCommand::Element(place) => {
-            let node = transform_jsx(text, settings, allowed, &tape[9..], place, calls, notices, pen);
+            let node = transform_jsx(
+                text,
+                settings,
+                allowed,
+                &tape[9..],
+                place,
+                calls,
+                notices,
+                pen,
+            );
             let end = node.pen;
-            Lowered { pen: end, used: 9 + node.used }
+            Lowered {
+                pen: end,
+                used: 9 + node.used,
+            }
         }
         ValueCommand::Fragment(_) => {
             let node = transform_fragment(text, settings, allowed, &tape[9..], calls, notices, pen);
             let end = node.pen;
-            Lowered { pen: end, used: 9 + node.used }
+            Lowered {
+                pen: end,
+                used: 9 + node.used,
+            }
         }
         ValueCommand::Wrong => Lowered { pen: pen, used: 0 },
         ValueCommand::Cut => Lowered { pen: pen, used: 0 },
@@ -516,7 +539,17 @@ fn transform_jsx_attribute_value(text: &[u8], settings: Settings, allowed: bool,
 }
 
 // An attribute whose name is written: its value, behind n bytes.
-fn value_behind(text: &[u8], settings: Settings, allowed: bool, tape: &[u8], n: usize, calls: &mut [u8], notices: &mut [u8], pen: Pen, key: usize) -> Props
+fn value_behind(
+    text: &[u8],
+    settings: Settings,
+    allowed: bool,
+    tape: &[u8],
+    n: usize,
+    calls: &mut [u8],
+    notices: &mut [u8],
+    pen: Pen,
+    key: usize,
+) -> Props
     requires { ⌜ length (now text) ≤ 65535 ⌝ }
     requires { ⌜ firstIll (now text) ≡ Nothing ⌝ }
     requires { ⌜ (1 ≤ n) × (n ≤ length (now tape)) ⌝ }
@@ -524,7 +557,15 @@ fn value_behind(text: &[u8], settings: Settings, allowed: bool, tape: &[u8], n: 
     ensures { λ r. ⌜ ((f d : ℕ) (v : Value) (u : ℕ) → length (now (tape .entry)) ≤ f → valueAt f (now (text .entry)) d (drop n (now (tape .entry))) ≡ done v u →
         Written (lowerValue (context (now (text .entry)) settings allowed) v) (n + u) (now (calls .entry)) (now (calls .exit)) (now (notices .entry)) (now (notices .exit)) pen (r .pen) (r .used)) ⌝ }
 {
-    let value = transform_jsx_attribute_value(text, settings, allowed, &tape[n..], calls, notices, pen);
+    let value = transform_jsx_attribute_value(
+        text,
+        settings,
+        allowed,
+        &tape[n..],
+        calls,
+        notices,
+        pen,
+    );
     let end = value.pen;
     Props {
         pen: end,
@@ -536,7 +577,17 @@ fn value_behind(text: &[u8], settings: Settings, allowed: bool, tape: &[u8], n: 
 }
 
 // A plain attribute that becomes a property.
-fn plain(text: &[u8], settings: Settings, allowed: bool, tape: &[u8], span: Span, calls: &mut [u8], notices: &mut [u8], pen: Pen, key: usize) -> Props
+fn plain(
+    text: &[u8],
+    settings: Settings,
+    allowed: bool,
+    tape: &[u8],
+    span: Span,
+    calls: &mut [u8],
+    notices: &mut [u8],
+    pen: Pen,
+    key: usize,
+) -> Props
     requires { ⌜ length (now text) ≤ 65535 ⌝ }
     requires { ⌜ firstIll (now text) ≡ Nothing ⌝ }
     requires { ⌜ 5 ≤ length (now tape) ⌝ }
@@ -551,7 +602,16 @@ fn plain(text: &[u8], settings: Settings, allowed: bool, tape: &[u8], span: Span
 }
 
 // The attribute at the front. In an automatic call a key with a value is no property: its place is told.
-fn attribute(text: &[u8], settings: Settings, allowed: bool, classic: bool, tape: &[u8], calls: &mut [u8], notices: &mut [u8], pen: Pen) -> Props
+fn attribute(
+    text: &[u8],
+    settings: Settings,
+    allowed: bool,
+    classic: bool,
+    tape: &[u8],
+    calls: &mut [u8],
+    notices: &mut [u8],
+    pen: Pen,
+) -> Props
     requires { ⌜ length (now text) ≤ 65535 ⌝ }
     requires { ⌜ firstIll (now text) ≡ Nothing ⌝ }
     ensures { λ r. ⌜ Moves (length (now (tape .entry))) (r .used) (r .last) × (r .key ≤ r .used) ⌝ }
@@ -576,17 +636,50 @@ fn attribute(text: &[u8], settings: Settings, allowed: bool, classic: bool, tape
         }
         AttributeCommand::Spread(e) => {
             let end = put_over(calls, pen, 0x86, e);
-            Props { pen: end, used: 3, last: false, some: true, key: 0 }
+            Props {
+                pen: end,
+                used: 3,
+                last: false,
+                some: true,
+                key: 0,
+            }
         }
         AttributeCommand::Literal(e) => literal_attribute(text, tape, calls, pen, e),
-        AttributeCommand::End => Props { pen: pen, used: 1, last: true, some: false, key: 0 },
-        AttributeCommand::Wrong => Props { pen: pen, used: 0, last: true, some: false, key: 0 },
-        AttributeCommand::Cut => Props { pen: pen, used: 0, last: true, some: false, key: 0 },
+        AttributeCommand::End => Props {
+            pen: pen,
+            used: 1,
+            last: true,
+            some: false,
+            key: 0,
+        },
+        AttributeCommand::Wrong => Props {
+            pen: pen,
+            used: 0,
+            last: true,
+            some: false,
+            key: 0,
+        },
+        AttributeCommand::Cut => Props {
+            pen: pen,
+            used: 0,
+            last: true,
+            some: false,
+            key: 0,
+        },
     }
 }
 
 // The attributes up to the 1e.
-fn attributes(text: &[u8], settings: Settings, allowed: bool, classic: bool, tape: &[u8], calls: &mut [u8], notices: &mut [u8], pen: Pen) -> Props
+fn attributes(
+    text: &[u8],
+    settings: Settings,
+    allowed: bool,
+    classic: bool,
+    tape: &[u8],
+    calls: &mut [u8],
+    notices: &mut [u8],
+    pen: Pen,
+) -> Props
     requires { ⌜ length (now text) ≤ 65535 ⌝ }
     requires { ⌜ firstIll (now text) ≡ Nothing ⌝ }
     ensures { λ r. ⌜ (r .used ≤ length (now (tape .entry))) × (r .key ≤ length (now (tape .entry))) ⌝ }
@@ -598,19 +691,42 @@ fn attributes(text: &[u8], settings: Settings, allowed: bool, classic: bool, tap
     let mut some = false;
     let mut key: usize = 0;
     loop {
-        let step = attribute(text, settings, allowed, classic, &tape[i..], calls, notices, next);
+        let step = attribute(
+            text,
+            settings,
+            allowed,
+            classic,
+            &tape[i..],
+            calls,
+            notices,
+            next,
+        );
         next = step.pen;
         key = newer(i, step.key, key);
         some = some | step.some;
         i = i + step.used;
         if step.last {
-            return Props { pen: next, used: i, last: true, some: some, key: key };
+            return Props {
+                pen: next,
+                used: i,
+                last: true,
+                some: some,
+                key: key,
+            };
         }
     }
 }
 
 // The child at the front.
-fn transform_jsx_child(text: &[u8], settings: Settings, allowed: bool, tape: &[u8], calls: &mut [u8], notices: &mut [u8], pen: Pen) -> Items
+fn transform_jsx_child(
+    text: &[u8],
+    settings: Settings,
+    allowed: bool,
+    tape: &[u8],
+    calls: &mut [u8],
+    notices: &mut [u8],
+    pen: Pen,
+) -> Items
     requires { ⌜ length (now text) ≤ 65535 ⌝ }
     requires { ⌜ firstIll (now text) ≡ Nothing ⌝ }
     ensures { λ r. ⌜ Moves (length (now (tape .entry))) (r .used) (r .last) × (r .count ≤ r .used) ⌝ }
@@ -622,31 +738,96 @@ fn transform_jsx_child(text: &[u8], settings: Settings, allowed: bool, tape: &[u
         ChildCommand::Text(span) => transform_jsx_text(text, span, calls, pen),
         ChildCommand::Expression(e) => {
             let end = put_over(calls, pen, 0x94, e);
-            Items { pen: end, used: 3, last: false, count: 1, spread: false }
+            Items {
+                pen: end,
+                used: 3,
+                last: false,
+                count: 1,
+                spread: false,
+            }
         }
-        ChildCommand::Empty => Items { pen: pen, used: 1, last: false, count: 0, spread: false },
+        ChildCommand::Empty => Items {
+            pen: pen,
+            used: 1,
+            last: false,
+            count: 0,
+            spread: false,
+        },
         ChildCommand::Spread(e) => {
             let end = put_over(calls, pen, 0x9c, e);
-            Items { pen: end, used: 3, last: false, count: 1, spread: true }
+            Items {
+                pen: end,
+                used: 3,
+                last: false,
+                count: 1,
+                spread: true,
+            }
         }
         ChildCommand::Element(place) => {
-            let node = transform_jsx(text, settings, allowed, &tape[9..], place, calls, notices, pen);
+            let node = transform_jsx(
+                text,
+                settings,
+                allowed,
+                &tape[9..],
+                place,
+                calls,
+                notices,
+                pen,
+            );
             let end = node.pen;
-            Items { pen: end, used: 9 + node.used, last: false, count: 1, spread: false }
+            Items {
+                pen: end,
+                used: 9 + node.used,
+                last: false,
+                count: 1,
+                spread: false,
+            }
         }
         ChildCommand::Fragment(_) => {
             let node = transform_fragment(text, settings, allowed, &tape[9..], calls, notices, pen);
             let end = node.pen;
-            Items { pen: end, used: 9 + node.used, last: false, count: 1, spread: false }
+            Items {
+                pen: end,
+                used: 9 + node.used,
+                last: false,
+                count: 1,
+                spread: false,
+            }
         }
-        ChildCommand::End => Items { pen: pen, used: 1, last: true, count: 0, spread: false },
-        ChildCommand::Wrong => Items { pen: pen, used: 0, last: true, count: 0, spread: false },
-        ChildCommand::Cut => Items { pen: pen, used: 0, last: true, count: 0, spread: false },
+        ChildCommand::End => Items {
+            pen: pen,
+            used: 1,
+            last: true,
+            count: 0,
+            spread: false,
+        },
+        ChildCommand::Wrong => Items {
+            pen: pen,
+            used: 0,
+            last: true,
+            count: 0,
+            spread: false,
+        },
+        ChildCommand::Cut => Items {
+            pen: pen,
+            used: 0,
+            last: true,
+            count: 0,
+            spread: false,
+        },
     }
 }
 
 // The children up to the 1f.
-fn children(text: &[u8], settings: Settings, allowed: bool, tape: &[u8], calls: &mut [u8], notices: &mut [u8], pen: Pen) -> Items
+fn children(
+    text: &[u8],
+    settings: Settings,
+    allowed: bool,
+    tape: &[u8],
+    calls: &mut [u8],
+    notices: &mut [u8],
+    pen: Pen,
+) -> Items
     requires { ⌜ length (now text) ≤ 65535 ⌝ }
     requires { ⌜ firstIll (now text) ≡ Nothing ⌝ }
     ensures { λ r. ⌜ (r .used ≤ length (now (tape .entry))) × (r .count ≤ length (now (tape .entry))) ⌝ }
@@ -664,13 +845,27 @@ fn children(text: &[u8], settings: Settings, allowed: bool, tape: &[u8], calls: 
         spread = spread | step.spread;
         i = i + step.used;
         if step.last {
-            return Items { pen: next, used: i, last: true, count: count, spread: spread };
+            return Items {
+                pen: next,
+                used: i,
+                last: true,
+                count: count,
+                spread: spread,
+            };
         }
     }
 }
 
 // The children of an automatic call and the end of its object. Where no child survives, the object's end takes the place of the children's begin.
-fn child_object(text: &[u8], settings: Settings, allowed: bool, tape: &[u8], calls: &mut [u8], notices: &mut [u8], pen: Pen) -> Items
+fn child_object(
+    text: &[u8],
+    settings: Settings,
+    allowed: bool,
+    tape: &[u8],
+    calls: &mut [u8],
+    notices: &mut [u8],
+    pen: Pen,
+) -> Items
     requires { ⌜ length (now text) ≤ 65535 ⌝ }
     requires { ⌜ firstIll (now text) ≡ Nothing ⌝ }
     ensures { λ r. ⌜ (r .used ≤ length (now (tape .entry))) × (r .count ≤ length (now (tape .entry))) ⌝ }
@@ -684,16 +879,37 @@ fn child_object(text: &[u8], settings: Settings, allowed: bool, tape: &[u8], cal
     let spread = items.spread;
     if count == 0 {
         let none = put_bare(calls, pen, 0x82);
-        return Items { pen: none, used: used, last: true, count: count, spread: spread };
+        return Items {
+            pen: none,
+            used: used,
+            last: true,
+            count: count,
+            spread: spread,
+        };
     }
     let inside = items.pen;
     let formed = put_byte(calls, inside, 0x9b, children_form(count, spread));
     let end = put_bare(calls, formed, 0x82);
-    Items { pen: end, used: used, last: true, count: count, spread: spread }
+    Items {
+        pen: end,
+        used: used,
+        last: true,
+        count: count,
+        spread: spread,
+    }
 }
 
 // The value of the last key, which stands at `key`, or what stands for none.
-fn key_value(text: &[u8], settings: Settings, allowed: bool, tape: &[u8], key: usize, calls: &mut [u8], notices: &mut [u8], pen: Pen) -> Pen
+fn key_value(
+    text: &[u8],
+    settings: Settings,
+    allowed: bool,
+    tape: &[u8],
+    key: usize,
+    calls: &mut [u8],
+    notices: &mut [u8],
+    pen: Pen,
+) -> Pen
     requires { ⌜ length (now text) ≤ 65535 ⌝ }
     requires { ⌜ firstIll (now text) ≡ Nothing ⌝ }
     requires { ⌜ key ≤ length (now tape) ⌝ }
@@ -704,12 +920,30 @@ fn key_value(text: &[u8], settings: Settings, allowed: bool, tape: &[u8], key: u
         return no_key(settings, calls, pen);
     }
     let begun = put_bare(calls, pen, 0x9d);
-    let value = transform_jsx_attribute_value(text, settings, allowed, &tape[key..], calls, notices, begun);
+    let value = transform_jsx_attribute_value(
+        text,
+        settings,
+        allowed,
+        &tape[key..],
+        calls,
+        notices,
+        begun,
+    );
     value.pen
 }
 
 // An automatic call of an element whose name takes `at` bytes.
-fn automatic_call(text: &[u8], settings: Settings, allowed: bool, tape: &[u8], at: usize, place: Place, calls: &mut [u8], notices: &mut [u8], pen: Pen) -> Lowered
+fn automatic_call(
+    text: &[u8],
+    settings: Settings,
+    allowed: bool,
+    tape: &[u8],
+    at: usize,
+    place: Place,
+    calls: &mut [u8],
+    notices: &mut [u8],
+    pen: Pen,
+) -> Lowered
     requires { ⌜ length (now text) ≤ 65535 ⌝ }
     requires { ⌜ firstIll (now text) ≡ Nothing ⌝ }
     requires { ⌜ at ≤ length (now tape) ⌝ }
@@ -719,24 +953,62 @@ fn automatic_call(text: &[u8], settings: Settings, allowed: bool, tape: &[u8], a
 {
     let begun = put_byte(calls, pen, 0x80, 1);
     let object = put_bare(calls, begun, 0x81);
-    let props = attributes(text, settings, allowed, false, &tape[at..], calls, notices, object);
+    let props = attributes(
+        text,
+        settings,
+        allowed,
+        false,
+        &tape[at..],
+        calls,
+        notices,
+        object,
+    );
     let inside = props.pen;
     let from = at + props.used;
-    let items = child_object(text, settings, allowed, &tape[from..], calls, notices, inside);
+    let items = child_object(
+        text,
+        settings,
+        allowed,
+        &tape[from..],
+        calls,
+        notices,
+        inside,
+    );
     let ended = items.pen;
     let count = items.count;
-    let keyed = key_value(text, settings, allowed, &tape[at..], props.key, calls, notices, ended);
+    let keyed = key_value(
+        text,
+        settings,
+        allowed,
+        &tape[at..],
+        props.key,
+        calls,
+        notices,
+        ended,
+    );
     let counted = static_children(settings, calls, keyed, count);
     let sourced = source_output(settings, calls, counted, place);
     let added = self_output(settings, allowed, calls, sourced);
     let tagged = put_bare(calls, added, 0x9e);
     let named = transform_element_name(settings, tape, calls, notices, tagged);
     let end = closing(settings, calls, named, automatic_name(settings, count));
-    Lowered { pen: end, used: from + items.used }
+    Lowered {
+        pen: end,
+        used: from + items.used,
+    }
 }
 
 // The object of a classic call, or null in its place where there is no property.
-fn object_or_null(text: &[u8], settings: Settings, allowed: bool, tape: &[u8], place: Place, calls: &mut [u8], notices: &mut [u8], pen: Pen) -> Lowered
+fn object_or_null(
+    text: &[u8],
+    settings: Settings,
+    allowed: bool,
+    tape: &[u8],
+    place: Place,
+    calls: &mut [u8],
+    notices: &mut [u8],
+    pen: Pen,
+) -> Lowered
     requires { ⌜ length (now text) ≤ 65535 ⌝ }
     requires { ⌜ firstIll (now text) ≡ Nothing ⌝ }
     ensures { λ r. ⌜ r .used ≤ length (now (tape .entry)) ⌝ }
@@ -751,14 +1023,29 @@ fn object_or_null(text: &[u8], settings: Settings, allowed: bool, tape: &[u8], p
     let sourced = source_output(settings, calls, added, place);
     if has_more(settings, allowed, props.some) {
         let end = put_bare(calls, sourced, 0x82);
-        return Lowered { pen: end, used: used };
+        return Lowered {
+            pen: end,
+            used: used,
+        };
     }
     let null = put_bare(calls, pen, 0x88);
-    Lowered { pen: null, used: used }
+    Lowered {
+        pen: null,
+        used: used,
+    }
 }
 
 // The argument of a classic call behind the tag: a sole spread, an object or null.
-fn argument(text: &[u8], settings: Settings, allowed: bool, tape: &[u8], place: Place, calls: &mut [u8], notices: &mut [u8], pen: Pen) -> Lowered
+fn argument(
+    text: &[u8],
+    settings: Settings,
+    allowed: bool,
+    tape: &[u8],
+    place: Place,
+    calls: &mut [u8],
+    notices: &mut [u8],
+    pen: Pen,
+) -> Lowered
     requires { ⌜ length (now text) ≤ 65535 ⌝ }
     requires { ⌜ firstIll (now text) ≡ Nothing ⌝ }
     ensures { λ r. ⌜ r .used ≤ length (now (tape .entry)) ⌝ }
@@ -769,14 +1056,27 @@ fn argument(text: &[u8], settings: Settings, allowed: bool, tape: &[u8], place: 
     match lone {
         Lone::Sole(e, used) => {
             let end = put_over(calls, pen, 0x89, e);
-            Lowered { pen: end, used: used }
+            Lowered {
+                pen: end,
+                used: used,
+            }
         }
         Lone::Object => object_or_null(text, settings, allowed, tape, place, calls, notices, pen),
     }
 }
 
 // A classic call of an element whose name takes `at` bytes.
-fn classic_call(text: &[u8], settings: Settings, allowed: bool, tape: &[u8], at: usize, place: Place, calls: &mut [u8], notices: &mut [u8], pen: Pen) -> Lowered
+fn classic_call(
+    text: &[u8],
+    settings: Settings,
+    allowed: bool,
+    tape: &[u8],
+    at: usize,
+    place: Place,
+    calls: &mut [u8],
+    notices: &mut [u8],
+    pen: Pen,
+) -> Lowered
     requires { ⌜ length (now text) ≤ 65535 ⌝ }
     requires { ⌜ firstIll (now text) ≡ Nothing ⌝ }
     requires { ⌜ at ≤ length (now tape) ⌝ }
@@ -785,19 +1085,48 @@ fn classic_call(text: &[u8], settings: Settings, allowed: bool, tape: &[u8], at:
         Written (classicCallOf (context (now (text .entry)) settings allowed) place n a k) (at + v + w) (now (calls .entry)) (now (calls .exit)) (now (notices .entry)) (now (notices .exit)) pen (r .pen) (r .used)) ⌝ }
 {
     let begun = put_byte(calls, pen, 0x80, 0);
-    let first = argument(text, settings, allowed, &tape[at..], place, calls, notices, begun);
+    let first = argument(
+        text,
+        settings,
+        allowed,
+        &tape[at..],
+        place,
+        calls,
+        notices,
+        begun,
+    );
     let inside = first.pen;
     let from = at + first.used;
-    let items = children(text, settings, allowed, &tape[from..], calls, notices, inside);
+    let items = children(
+        text,
+        settings,
+        allowed,
+        &tape[from..],
+        calls,
+        notices,
+        inside,
+    );
     let filled = items.pen;
     let tagged = put_bare(calls, filled, 0x9e);
     let named = transform_element_name(settings, tape, calls, notices, tagged);
     let end = closing(settings, calls, named, 1);
-    Lowered { pen: end, used: from + items.used }
+    Lowered {
+        pen: end,
+        used: from + items.used,
+    }
 }
 
 // An element behind its 10 and place.
-fn transform_jsx(text: &[u8], settings: Settings, allowed: bool, tape: &[u8], place: Place, calls: &mut [u8], notices: &mut [u8], pen: Pen) -> Lowered
+fn transform_jsx(
+    text: &[u8],
+    settings: Settings,
+    allowed: bool,
+    tape: &[u8],
+    place: Place,
+    calls: &mut [u8],
+    notices: &mut [u8],
+    pen: Pen,
+) -> Lowered
     requires { ⌜ length (now text) ≤ 65535 ⌝ }
     requires { ⌜ firstIll (now text) ≡ Nothing ⌝ }
     ensures { λ r. ⌜ r .used ≤ length (now (tape .entry)) ⌝ }
@@ -806,13 +1135,41 @@ fn transform_jsx(text: &[u8], settings: Settings, allowed: bool, tape: &[u8], pl
 {
     let at = skip_name(tape);
     if is_classic_element(text, settings, &tape[at..]) {
-        return classic_call(text, settings, allowed, tape, at, place, calls, notices, pen);
+        return classic_call(
+            text,
+            settings,
+            allowed,
+            tape,
+            at,
+            place,
+            calls,
+            notices,
+            pen,
+        );
     }
-    automatic_call(text, settings, allowed, tape, at, place, calls, notices, pen)
+    automatic_call(
+        text,
+        settings,
+        allowed,
+        tape,
+        at,
+        place,
+        calls,
+        notices,
+        pen,
+    )
 }
 
 // A fragment behind its 11 and place.
-fn transform_fragment(text: &[u8], settings: Settings, allowed: bool, tape: &[u8], calls: &mut [u8], notices: &mut [u8], pen: Pen) -> Lowered
+fn transform_fragment(
+    text: &[u8],
+    settings: Settings,
+    allowed: bool,
+    tape: &[u8],
+    calls: &mut [u8],
+    notices: &mut [u8],
+    pen: Pen,
+) -> Lowered
     requires { ⌜ length (now text) ≤ 65535 ⌝ }
     requires { ⌜ firstIll (now text) ≡ Nothing ⌝ }
     ensures { λ r. ⌜ r .used ≤ length (now (tape .entry)) ⌝ }
@@ -826,7 +1183,15 @@ fn transform_fragment(text: &[u8], settings: Settings, allowed: bool, tape: &[u8
     bare_automatic(text, settings, allowed, tape, calls, notices, pen)
 }
 
-fn bare_classic(text: &[u8], settings: Settings, allowed: bool, tape: &[u8], calls: &mut [u8], notices: &mut [u8], pen: Pen) -> Lowered
+fn bare_classic(
+    text: &[u8],
+    settings: Settings,
+    allowed: bool,
+    tape: &[u8],
+    calls: &mut [u8],
+    notices: &mut [u8],
+    pen: Pen,
+) -> Lowered
     requires { ⌜ length (now text) ≤ 65535 ⌝ }
     requires { ⌜ firstIll (now text) ≡ Nothing ⌝ }
     ensures { λ r. ⌜ r .used ≤ length (now (tape .entry)) ⌝ }
@@ -841,10 +1206,21 @@ fn bare_classic(text: &[u8], settings: Settings, allowed: bool, tape: &[u8], cal
     let mode = settings.mode;
     let named = get_fragment(mode, calls, tagged);
     let end = closing(settings, calls, named, 1);
-    Lowered { pen: end, used: items.used }
+    Lowered {
+        pen: end,
+        used: items.used,
+    }
 }
 
-fn bare_automatic(text: &[u8], settings: Settings, allowed: bool, tape: &[u8], calls: &mut [u8], notices: &mut [u8], pen: Pen) -> Lowered
+fn bare_automatic(
+    text: &[u8],
+    settings: Settings,
+    allowed: bool,
+    tape: &[u8],
+    calls: &mut [u8],
+    notices: &mut [u8],
+    pen: Pen,
+) -> Lowered
     requires { ⌜ length (now text) ≤ 65535 ⌝ }
     requires { ⌜ firstIll (now text) ≡ Nothing ⌝ }
     ensures { λ r. ⌜ r .used ≤ length (now (tape .entry)) ⌝ }
@@ -862,11 +1238,22 @@ fn bare_automatic(text: &[u8], settings: Settings, allowed: bool, tape: &[u8], c
     let mode = settings.mode;
     let named = get_fragment(mode, calls, tagged);
     let end = closing(settings, calls, named, automatic_name(settings, count));
-    Lowered { pen: end, used: items.used }
+    Lowered {
+        pen: end,
+        used: items.used,
+    }
 }
 
 // The element or fragment that stands at the front of what follows a root's scopes.
-fn transform_root(text: &[u8], settings: Settings, allowed: bool, tape: &[u8], calls: &mut [u8], notices: &mut [u8], pen: Pen) -> Pen
+fn transform_root(
+    text: &[u8],
+    settings: Settings,
+    allowed: bool,
+    tape: &[u8],
+    calls: &mut [u8],
+    notices: &mut [u8],
+    pen: Pen,
+) -> Pen
     requires { ⌜ length (now text) ≤ 65535 ⌝ }
     requires { ⌜ firstIll (now text) ≡ Nothing ⌝ }
     ensures { λ r. ⌜ ((n : Node) → NodeAt (now (text .entry)) (now (tape .entry)) n →
@@ -875,7 +1262,16 @@ fn transform_root(text: &[u8], settings: Settings, allowed: bool, tape: &[u8], c
     let command = scope_command_at(true, tape);
     match command {
         ScopeCommand::Element(place) => {
-            let node = transform_jsx(text, settings, allowed, &tape[9..], place, calls, notices, pen);
+            let node = transform_jsx(
+                text,
+                settings,
+                allowed,
+                &tape[9..],
+                place,
+                calls,
+                notices,
+                pen,
+            );
             node.pen
         }
         ScopeCommand::Fragment(_) => {
@@ -890,7 +1286,14 @@ fn transform_root(text: &[u8], settings: Settings, allowed: bool, tape: &[u8], c
 }
 
 // A root that was checked: its calls and notices are written. From targets that are empty it counts.
-pub fn lower(text: &[u8], settings: Settings, tape: &[u8], calls: &mut [u8], notices: &mut [u8], pen: Pen) -> Pen
+pub fn lower(
+    text: &[u8],
+    settings: Settings,
+    tape: &[u8],
+    calls: &mut [u8],
+    notices: &mut [u8],
+    pen: Pen,
+) -> Pen
     requires { ⌜ length (now text) ≤ 65535 ⌝ }
     requires { ⌜ firstIll (now text) ≡ Nothing ⌝ }
     ensures { λ r. ⌜ ((o : Root) (u : ℕ) → readRoot (now (text .entry)) (now (tape .entry)) ≡ done o u →
@@ -898,5 +1301,13 @@ pub fn lower(text: &[u8], settings: Settings, tape: &[u8], calls: &mut [u8], not
 {
     let head = root_head(tape);
     let at = head.used;
-    transform_root(text, settings, head.allowed, &tape[at..], calls, notices, pen)
+    transform_root(
+        text,
+        settings,
+        head.allowed,
+        &tape[at..],
+        calls,
+        notices,
+        pen,
+    )
 }
