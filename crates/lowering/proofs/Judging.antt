@@ -1,5 +1,5 @@
 -- What a root's judgement comes to (`judgeRoot` of definitions, Entries), by the code's tests.
---     turned-away                                 what a refusal comes to
+--     root-away, tape-away                        what a refusal comes to
 --     text-long, tape-long, ill-formed, forged    refusals 1, 2 and 12
 --     unforged, judged                            what is known, and what is left to judge, behind them
 --     bad-tape, good-tape                         the tape's own refusals, and a tape that reads
@@ -37,9 +37,18 @@ away s r = record { answer = answer.Refused r; state = s }
 
 -- ---- what a refusal comes to
 
-pub turned-away : (s : State) (cs ns : List ℕ) {j : Judged Lowered} {r : Refusal} → j ≡ refused r → Comes (outcomeBy s cs ns j) (away s r) cs ns
+turned-away : (s : State) (cs ns : List ℕ) {j : Judged Lowered} {t : Stepped} {r : Refusal} → j ≡ refused r → t ≡ away s r → Comes (outcomeBy s cs ns j) t cs ns
 unfolding outcomeBy
-turned-away s cs ns e = rw e (record { answered = refl; called = refl; noticed = refl })
+turned-away s cs ns e f = rw e (record { answered = f; called = refl; noticed = refl })
+
+module _ (text : List ℕ) (s : State) (tape cs ns : List ℕ) {t : Stepped} {r : Refusal} where
+  pub root-away : judgeRoot text s tape (length cs) (length ns) ≡ refused r → t ≡ away s r → Comes (rootOutcome text s tape cs ns) t cs ns
+  unfolding rootOutcome
+  root-away e f = turned-away s cs ns e f
+
+  pub tape-away : judgeTape text s tape (length cs) (length ns) ≡ refused r → t ≡ away s r → Comes (tapeOutcome text s tape cs ns) t cs ns
+  unfolding tapeOutcome
+  tape-away e f = turned-away s cs ns e f
 
 stopped : {A B : Type 0} (x : Parsed A) (k : A → Judged B) (f : Fault) (p : ℕ) → checked x ≡ checks.Bad f p → read x k ≡ refused (refusal.Tape f p)
 unfolding checked read
@@ -100,6 +109,11 @@ was-accepted : (j : Judged Lowered) → answerOf j ≡ answer.Accepted → (l : 
 unfolding answerOf
 was-accepted (accepted l) e = (l, refl)
 was-accepted (refused r) e = let z : _≡_ {A = ℕ} 0 1 = cc in absurd (omega arith)
+
+pub was-refused : (j : Judged Lowered) {r : Refusal} → answerOf j ≡ answer.Refused r → j ≡ refused r
+unfolding answerOf
+was-refused (accepted l) e = let z : _≡_ {A = ℕ} 0 1 = cc in absurd (omega arith)
+was-refused (refused r) e = cc
 
 pub fits : (s : State) (callRoom noticeRoom : ℕ) (l : Lowered) → answerOf (fitted s callRoom noticeRoom l) ≡ answer.Accepted
     → (length (l .bound) ≤ 8) × (length (l .calls) ≤ callRoom - s .calls) × (length (l .notices) ≤ noticeRoom - s .notices)

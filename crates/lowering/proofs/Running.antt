@@ -47,9 +47,10 @@ pub record Counted (text : List ℕ) (s : State) (tape : List ℕ) (callRoom not
   pub notices : p .notices ≡ length (lowered .notices)
 
 module _ {text : List ℕ} {s : State} {tape : List ℕ} {callRoom noticeRoom : ℕ} (ready : Ready text s tape callRoom noticeRoom) where
-  pub counts : length (s .records) ≡ 8 → {cs cs′ ns ns′ : List ℕ} {p : Pen} → Ran text s tape cs cs′ ns ns′ (penOf s 0 0) p
-      → Counted text s tape callRoom noticeRoom p
-  counts eight ran =
+  pub counts : length (s .records) ≡ 8 → {cs cs′ ns ns′ : List ℕ} {p q : Pen} → p ≡ penOf s 0 0 → Ran text s tape cs cs′ ns ns′ p q
+      → Counted text s tape callRoom noticeRoom q
+  counts eight {cs} {cs′} {ns} {ns′} {p} {q} start run =
+      let ran : Ran text s tape cs cs′ ns ns′ (penOf s 0 0) q = subst (λ (x : Pen). Ran text s tape cs cs′ ns ns′ x q) start run in
       let good = checked-good (readRoot text tape) (ready .reads) in
       let o = good .0 in
       let e = ran o (good .1) (good .2) (s .records) (imports (live s)) (state-stands text s 0 0 eight (ready .unforged .bore) (omega arith) (omega arith)) in
@@ -94,12 +95,12 @@ after s p =
       state = record { settings = s .settings; records = p .store .records; count = p .store .count; calls = p .calls; notices = p .notices };
     }
 
-pub written : {text : List ℕ} {s : State} {tape cs cs′ ns ns′ : List ℕ} {p : Pen} → Ready text s tape (length cs) (length ns)
+pub written : {text : List ℕ} {s : State} {tape cs cs′ ns ns′ : List ℕ} {p q : Pen} → Ready text s tape (length cs) (length ns)
     → answerOf (judgeTape text s tape (length cs) (length ns)) ≡ answer.Accepted → length (s .records) ≡ 8 → length cs < 2 ^ 63 → length ns < 2 ^ 63
-    → Ran text s tape cs cs′ ns ns′ (penOf s (s .calls) (s .notices)) p
-    → Comes (tapeOutcome text s tape cs ns) (after s p) cs′ ns′
+    → p ≡ penOf s (s .calls) (s .notices) → Ran text s tape cs cs′ ns ns′ p q → Comes (tapeOutcome text s tape cs ns) (after s q) cs′ ns′
 unfolding tapeOutcome outcomeBy loweredAfter
-written {text} {s} {tape} {cs} {cs′} {ns} {ns′} {p} ready accepts eight short short′ ran =
+written {text} {s} {tape} {cs} {cs′} {ns} {ns′} {p} {q} ready accepts eight short short′ start run =
+    let ran : Ran text s tape cs cs′ ns ns′ (penOf s (s .calls) (s .notices)) q = subst (λ (x : Pen). Ran text s tape cs cs′ ns ns′ x q) start run in
     let good = checked-good (readRoot text tape) (ready .reads) in
     let o = good .0 in
     let js = imports (live s) in
@@ -108,16 +109,16 @@ written {text} {s} {tape} {cs} {cs′} {ns} {ns′} {p} ready accepts eight shor
     good-tape text s tape (length cs) (length ns) o (good .1) (good .2) in
     let f = fits s (length cs) (length ns) l (ap answerOf (sym judges) ∙ accepts) in
     let u = ready .unforged in
-    let e : Emitted (s .records) js (lowerRoot text (s .settings) o) cs cs′ ns ns′ (penOf s (s .calls) (s .notices)) p =
+    let e : Emitted (s .records) js (lowerRoot text (s .settings) o) cs cs′ ns ns′ (penOf s (s .calls) (s .notices)) q =
     ran o (good .1) (good .2) (s .records) js
     (state-stands text s (s .calls) (s .notices) eight (u .bore) (omega (arith, u .calls-within)) (omega (arith, u .notices-within))) in
-    let free : p .full ≡ false = e .fullness ∙ le-ltb 8 (length (l .bound)) (f .0) in
+    let free : q .full ≡ false = e .fullness ∙ le-ltb 8 (length (l .bound)) (f .0) in
     let x = call-room e short (omega (arith, e .call-place, u .calls-within, f .1)) free in
     let y = notice-room e short′ (omega (arith, e .notice-place, u .notices-within, f .2)) in
-    let m : after s p ≡ record { answer = answer.Accepted; state = moved s l } =
+    let m : after s q ≡ record { answer = answer.Accepted; state = moved s l } =
     (λ ι. record {
       answer = answer.Accepted;
-      state = record { settings = s .settings; records = p .store .records; count = p .store .count; calls = x .0 ι; notices = y .0 ι };
+      state = record { settings = s .settings; records = q .store .records; count = q .store .count; calls = x .0 ι; notices = y .0 ι };
     })
     ∙ ap (λ (t : State). record { answer = answer.Accepted; state = t }) (held-moved s l (e .stands .store free)) in
     rw (judges ∙ f .3) (record { answered = m; called = x .1; noticed = y .1 })

@@ -1,54 +1,49 @@
-use Prim.Native.Nat.{ℕ, suc, _≤_, _<_, _+_, _-_}
+use mathlib.Core.Path.{_≡_, sym, _∙_}
+use Prim.Native.Nat.{_-_}
 use native.Mathlib.Omega.{arith}
-use mathlib.Core.Path.{_≡_, refl, sym, ap, subst, _∙_}
-use lib.ListN.{length, getD, take, drop}
+use lib.ListN.{length, length-map}
+use denote.Ref.{now}
+use Rattle.lowering.proofs.Running.{Counted, counts, no-number, no-room, no-notice-room, all-fits}
 use borrow.Author.Needs.{needs}
 use Rattle.lowering.proofs.fit.Statement.{statement}
 use Rattle.lowering.proofs.fit.Tie as tie
-use Rattle.lowering.proofs.fit.Reads as reads
-use Rattle.lowering.proofs.fit.Lts as lts
-use Rattle.jsx.proofs.jsx_impl.lower.Reads as lower-reads
-use Rattle.lowering.proofs.pen_over.Reads as pen-over-reads
 
--- src/lib.rt:59:9
+eight : (c : tie.Start) → length (c .args .state .records) ≡ 8
+eight c = sym (length-map (c .args .state .records) _) ∙ c .good .1 .0 .1 .1 .1 .0 .1 .0 .1
+
+-- what the run has told
+told : (c : tie.After-lower) → Counted (now ((c .before .before .before .before .before .before .before .args) .text)) ((c .before .before .before .before .before .before .before .args) .state) (now ((c .before .before .before .before .before .before .before .args) .tape)) ((c .before .before .before .before .before .before .before .args) .call-room) ((c .before .before .before .before .before .before .before .args) .notice-room) (c .lower .result)
+told c = counts ((c .before .before .before .before .before .before .before .pre)) (eight ((c .before .before .before .before .before .before .before))) ((c .before .pen-over) .ensures) (c .lower .ensures)
+
 slice-aggregate-lower : tie.Need-slice-aggregate-lower
 slice-aggregate-lower c = search needs
 
--- src/lib.rt:60:9
 slice-aggregate-lower-2 : tie.Need-slice-aggregate-lower-2
 slice-aggregate-lower-2 c = search needs
 
--- src/lib.rt:61:9
 pen-over-requires : tie.Need-pen-over-requires
 pen-over-requires c κs = search needs
 
--- src/lib.rt:55:9
 lower-requires : tie.Need-lower-requires
-lower-requires c κs = ?
+lower-requires c κs = ((c .before .before .before .before .before .before .pre) .unforged .spelled .short, ((c .before .before .before .before .before .before .pre) .unforged .spelled .formed, ?))
 
--- src/lib.rt:64:9
 returns : tie.Need-returns
-returns c = ?
+returns c = no-number (told ((c .before .before .before))) (c .if1 .taken)
 
--- src/lib.rt:66:8
 sub-if2 : tie.Need-sub-if2
-sub-if2 c = ?
+sub-if2 c = (c .before .before .before .before .before .before .before .before .before .before .before .pre) .unforged .calls-within
 
--- src/lib.rt:67:9
 returns-2 : tie.Need-returns-2
-returns-2 c = ?
+returns-2 c = no-room (told ((c .before .before .before .before .before .before))) ((c .before .before .before .if1) .left) (c .if2 .taken)
 
--- src/lib.rt:69:8
 sub-if3 : tie.Need-sub-if3
-sub-if3 c = ?
+sub-if3 c = (c .before .before .before .before .before .before .before .before .before .before .before .before .before .before .pre) .unforged .notices-within
 
--- src/lib.rt:70:9
 returns-3 : tie.Need-returns-3
-returns-3 c = ?
+returns-3 c = no-notice-room (told ((c .before .before .before .before .before .before .before .before .before))) ((c .before .before .before .before .before .before .if1) .left) ((c .before .before .before .if2) .left) (c .if3 .taken)
 
--- src/lib.rt:48:1
 returns-4 : tie.Need-returns-4
-returns-4 c = ?
+returns-4 c = all-fits (told ((c .before .before .before .before .before .before .before .before .before))) ((c .before .before .before .before .before .before .if1) .left) ((c .before .before .before .if2) .left) (c .if3 .left)
 
 pub fit-spec : {M : Type 1} → statement M
 fit-spec =

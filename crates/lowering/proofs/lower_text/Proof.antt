@@ -1,43 +1,33 @@
-use Prim.Native.Nat.{ℕ, suc, _≤_, _<_, _+_, _-_}
-use native.Mathlib.Omega.{arith}
-use mathlib.Core.Path.{_≡_, refl, sym, ap, subst, _∙_}
-use lib.ListN.{length, getD, take, drop}
+use Prim.Native.Nat.{_-_}
+use denote.Ref.{now}
+use lib.ListN.{length}
+use mathlib.Core.Path.{_≡_, sym, _∙_}
+use Rattle.text.proofs.Lists.{told}
+use Rattle.lowering.proofs.Judging.{root-away, forged, unforged, outcome-judged}
 use borrow.Author.Needs.{needs}
 use Rattle.lowering.proofs.lower_text.Statement.{statement}
 use Rattle.lowering.proofs.lower_text.Tie as tie
-use Rattle.lowering.proofs.lower_text.Reads as reads
-use Rattle.lowering.proofs.lower_text.Lts as lts
-use Rattle.lowering.proofs.lower_tape.Reads as lower-tape-reads
-use Rattle.lowering.proofs.refused.Reads as refused-reads
-use Rattle.store.proofs.forged.is_forged.Reads as is-forged-reads
 
--- src/lib.rt:131:8
 is-forged-requires : tie.Need-is-forged-requires
 is-forged-requires c κs = search needs
 
--- src/lib.rt:132:9
 refused-requires : tie.Need-refused-requires
 refused-requires c κs = search needs
 
--- src/lib.rt:132:9
 returns : tie.Need-returns
-returns c = ?
+returns c = let a = (c .before .before .before .before .before .before .before .args) in root-away (now (a .text)) (a .state) (now (a .tape)) (now (a .calls)) (now (a .notices)) (forged (now (a .text)) (a .state) (now (a .tape)) (length (now (a .calls))) (length (now (a .notices))) ((c .before .before .before .before .before .before .before .pre)) (told ((c .before .before .is-forged) .ensures) ((c .before .if1) .taken))) (c .refused .ensures)
 
--- src/lib.rt:134:5
 lower-tape-requires : tie.Need-lower-tape-requires
-lower-tape-requires c κs = ?
+lower-tape-requires c κs = let a = (c .before .before .before .before .before .before .before .before .args) in unforged (now (a .text)) (a .state) (now (a .tape)) (length (now (a .calls))) (length (now (a .notices))) ((c .before .before .before .before .before .before .before .before .pre)) (told ((c .before .before .before .is-forged) .ensures) ((c .before .before .if1) .left))
 
--- src/lib.rt:127:1
 same-length : tie.Need-same-length
 same-length c = search needs
 
--- src/lib.rt:127:1
 same-length-2 : tie.Need-same-length-2
 same-length-2 c = search needs
 
--- src/lib.rt:127:1
 returns-2 : tie.Need-returns-2
-returns-2 c = ?
+returns-2 c = let a = (c .before .before .before .before .before .before .before .before .before .before .before .before .before .args) in rw (← outcome-judged (now (a .text)) (a .state) (now (a .tape)) (now (a .calls)) (now (a .notices)) ((c .before .before .before .before .before .before .before .before .before .before .before .before .before .pre)) (told ((c .before .before .before .before .before .before .before .before .is-forged) .ensures) ((c .before .before .before .before .before .before .before .if1) .left))) ((c .before .before .before .before .lower-tape) .ensures)
 
 pub lower-text-spec : {M : Type 1} → statement M
 lower-text-spec =

@@ -1,34 +1,35 @@
-use Prim.Native.Nat.{ℕ, suc, _≤_, _<_, _+_, _-_}
+use mathlib.Core.Path.{_≡_, sym, _∙_}
+use Prim.Native.Nat.{_<_, _-_, _^_}
 use native.Mathlib.Omega.{arith}
-use mathlib.Core.Path.{_≡_, refl, sym, ap, subst, _∙_}
-use lib.ListN.{length, getD, take, drop}
+use lib.ListN.{length, length-map}
+use denote.Ref.{now}
+use Rattle.lowering.proofs.Running.{written}
 use borrow.Author.Needs.{needs}
 use Rattle.lowering.proofs.write.Statement.{statement}
 use Rattle.lowering.proofs.write.Tie as tie
-use Rattle.lowering.proofs.write.Reads as reads
-use Rattle.lowering.proofs.write.Lts as lts
-use Rattle.jsx.proofs.jsx_impl.lower.Reads as lower-reads
-use Rattle.lowering.proofs.pen_over.Reads as pen-over-reads
 
--- src/lib.rt:88:9
+eight : (c : tie.Start) → length (c .args .state .records) ≡ 8
+eight c = sym (length-map (c .args .state .records) _) ∙ c .good .1 .0 .1 .1 .1 .0 .1 .0 .1
+
+short : (c : tie.Start) → (length (now (c .args .calls)) < 2 ^ 63) × (length (now (c .args .notices)) < 2 ^ 63)
+short c = (omega arith, omega arith)
+
 pen-over-requires : tie.Need-pen-over-requires
 pen-over-requires c κs = search needs
 
--- src/lib.rt:82:9
 lower-requires : tie.Need-lower-requires
-lower-requires c κs = ?
+lower-requires c κs = ((c .before .before .before .before .before .before .before .before .pre) .0 .unforged .spelled .short, ((c .before .before .before .before .before .before .before .before .pre) .0 .unforged .spelled .formed, ?))
 
--- src/lib.rt:76:1
 same-length : tie.Need-same-length
 same-length c = search needs
 
--- src/lib.rt:76:1
 same-length-2 : tie.Need-same-length-2
 same-length-2 c = search needs
 
--- src/lib.rt:76:1
 returns : tie.Need-returns
-returns c = ?
+returns c =
+    let s = (c .before .before .before .before .before .before .before .before .before .before .before .before .before .before .before) in
+    written (s .pre .0) (s .pre .1) (eight s) (short s .0) (short s .1) ((c .before .before .before .before .before .before .before .pen-over) .ensures) ((c .before .before .before .before .before .before .lower) .ensures)
 
 pub write-spec : {M : Type 1} → statement M
 write-spec =
