@@ -4,9 +4,9 @@
 --     written              what the second run comes to
 -- Assumes nothing.
 use mathlib.Core.Path.{_≡_, refl, sym, ap, subst, _∙_}
-use mathlib.Core.Bool.{Bool, true, false}
+use mathlib.Core.Bool.{true, false}
 use mathlib.Core.List.{List}
-use Prim.Native.Nat.{ℕ, _+_, _-_, _≤_, _<_, _^_}
+use Prim.Native.Nat.{ℕ, _-_, _≤_, _<_, _^_}
 use native.Mathlib.Omega.{arith}
 use lib.ListN.{length}
 use lib.Dec.{ltb}
@@ -16,12 +16,12 @@ use Rattle.tape.specs.declared.refusal.Refusal.the-variants as refusal
 use Rattle.definitions.specs.declared.state.State.{State}
 use Rattle.definitions.specs.declared.state.Answer.the-variants as answer
 use Rattle.definitions.specs.declared.state.Stepped.{Stepped}
-use Rattle.definitions.specs.Judging.{Parsed, done, stop, Judged, accepted, refused, refuse, read}
+use Rattle.definitions.specs.Judging.{done, refuse}
 use Rattle.definitions.specs.Tree.{Root}
 use Rattle.definitions.specs.Reading.{readRoot}
 use Rattle.definitions.specs.Lowering.{lowerRoot}
-use Rattle.definitions.specs.States.{live, imports, sound}
-use Rattle.definitions.specs.Entries.{Lowered, loweredAfter, fitted, moved, laid, outcomeBy}
+use Rattle.definitions.specs.States.{live, imports}
+use Rattle.definitions.specs.Entries.{Lowered, loweredAfter, fitted, moved, outcomeBy}
 use Rattle.store.proofs.Adding.{held-moved}
 use Rattle.roots.proofs.Done.{checked-good}
 use Rattle.roots.proofs.Readings.{root-in-order}

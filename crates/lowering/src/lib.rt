@@ -22,10 +22,8 @@ use text::utf8::first_ill_formed;
 fn refused(state: State, refusal: Refusal) -> Stepped
     ensures { λ r. ⌜ r ≡ record { answer = Refused refusal; state = state } ⌝ }
 {
-    Stepped {
-        answer: Answer::Refused(refusal),
-        state,
-    }
+    let answer = Answer::Refused(refusal);
+    Stepped { answer, state }
 }
 
 // A pen over the state's records, at these places.
@@ -44,20 +42,20 @@ fn pen_over(state: State, calls: usize, notices: usize) -> Pen
     }
 }
 
-// Whether there is a number for each binding and room for each byte: lowering into no targets counts them.
+// Whether there is a number for each binding and room for each byte. Lowering into spare targets counts them.
 fn fit(text: &[u8], state: State, tape: &[u8], call_room: usize, notice_room: usize) -> Answer
     requires { ⌜ Ready (now text) state (now tape) «call_room» «notice_room» ⌝ }
     ensures { λ r. ⌜ r ≡ answerOf (judgeTape (now (text .entry)) state (now (tape .entry)) «call_room» «notice_room») ⌝ }
 {
     let settings = state.settings;
-    let mut no_calls = [0u8; 1];
-    let mut no_notices = [0u8; 1];
+    let mut spare = [0u8; 1];
+    let mut spare_notices = [0u8; 1];
     let pen = lower(
         text,
         settings,
         tape,
-        &mut no_calls,
-        &mut no_notices,
+        &mut spare,
+        &mut spare_notices,
         pen_over(state, 0, 0),
     );
     if pen.full {
@@ -102,7 +100,13 @@ fn write(text: &[u8], state: State, tape: &[u8], calls: &mut [u8], notices: &mut
 }
 
 // A tape that reads as a root.
-fn lower_checked(text: &[u8], state: State, tape: &[u8], calls: &mut [u8], notices: &mut [u8]) -> Stepped
+fn lower_checked(
+    text: &[u8],
+    state: State,
+    tape: &[u8],
+    calls: &mut [u8],
+    notices: &mut [u8],
+) -> Stepped
     requires { ⌜ Ready (now text) state (now tape) (length (now calls)) (length (now notices)) ⌝ }
     ensures { λ r. ⌜ Comes (tapeOutcome (now (text .entry)) state (now (tape .entry)) (now (calls .entry)) (now (notices .entry))) r (now (calls .exit)) (now (notices .exit)) ⌝ }
 {
@@ -113,7 +117,13 @@ fn lower_checked(text: &[u8], state: State, tape: &[u8], calls: &mut [u8], notic
 }
 
 // A state that is not forged.
-fn lower_tape(text: &[u8], state: State, tape: &[u8], calls: &mut [u8], notices: &mut [u8]) -> Stepped
+fn lower_tape(
+    text: &[u8],
+    state: State,
+    tape: &[u8],
+    calls: &mut [u8],
+    notices: &mut [u8],
+) -> Stepped
     requires { ⌜ Unforged (now text) state (now tape) (length (now calls)) (length (now notices)) ⌝ }
     ensures { λ r. ⌜ Comes (tapeOutcome (now (text .entry)) state (now (tape .entry)) (now (calls .entry)) (now (notices .entry))) r (now (calls .exit)) (now (notices .exit)) ⌝ }
 {
@@ -124,7 +134,13 @@ fn lower_tape(text: &[u8], state: State, tape: &[u8], calls: &mut [u8], notices:
 }
 
 // A text that is not too long and is UTF-8, and a tape that is not too long.
-fn lower_text(text: &[u8], state: State, tape: &[u8], calls: &mut [u8], notices: &mut [u8]) -> Stepped
+fn lower_text(
+    text: &[u8],
+    state: State,
+    tape: &[u8],
+    calls: &mut [u8],
+    notices: &mut [u8],
+) -> Stepped
     requires { ⌜ Text (now text) (now tape) ⌝ }
     ensures { λ r. ⌜ Comes (rootOutcome (now (text .entry)) state (now (tape .entry)) (now (calls .entry)) (now (notices .entry))) r (now (calls .exit)) (now (notices .exit)) ⌝ }
 {
@@ -136,7 +152,13 @@ fn lower_text(text: &[u8], state: State, tape: &[u8], calls: &mut [u8], notices:
 
 // The root's calls and notices behind those of the roots before it. Document 01's refusals 1, 2, 12, those of the tape, 9, 10 and 11, in this
 // order, leave the state and both targets as they are.
-pub fn lower_root(text: &[u8], state: State, tape: &[u8], calls: &mut [u8], notices: &mut [u8]) -> Stepped
+pub fn lower_root(
+    text: &[u8],
+    state: State,
+    tape: &[u8],
+    calls: &mut [u8],
+    notices: &mut [u8],
+) -> Stepped
     ensures { λ r. ⌜ r ≡ rootOutcome (now (text .entry)) state (now (tape .entry)) (now (calls .entry)) (now (notices .entry)) .stepped ⌝ }
     ensures { λ _. ⌜ now (calls .exit) ≡ rootOutcome (now (text .entry)) state (now (tape .entry)) (now (calls .entry)) (now (notices .entry)) .calls ⌝ }
     ensures { λ _. ⌜ now (notices .exit) ≡ rootOutcome (now (text .entry)) state (now (tape .entry)) (now (calls .entry)) (now (notices .entry)) .notices ⌝ }

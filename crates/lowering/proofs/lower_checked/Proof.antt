@@ -1,8 +1,6 @@
-use Prim.Native.Nat.{_-_}
 use denote.Ref.{now}
-use mathlib.Core.Path.{_≡_, sym, _∙_}
 use Rattle.text.proofs.Lists.{told}
-use Rattle.lowering.proofs.Judging.{tape-away, was-refused}
+use Rattle.lowering.proofs.Judging.{not-fitting}
 use borrow.Author.Needs.{needs}
 use Rattle.lowering.proofs.lower_checked.Statement.{statement}
 use Rattle.lowering.proofs.lower_checked.Tie as tie
@@ -20,10 +18,12 @@ enum-told : tie.Need-enum-told
 enum-told c = search needs
 
 write-requires : tie.Need-write-requires
-write-requires c κs = ((c .before .before .before .before .before .before .before .before .before .pre), told ((c .before .before .before .before .fit) .ensures) ((c .before .before .enum-told) .given .1))
+write-requires c κs = ((c .before .before .before .before .before .before .before .before .before .pre), told (c .before .before .before .before .fit .ensures) (c .before .before .enum-told .given .1))
 
 returns : tie.Need-returns
-returns c = let a = (c .before .before .before .before .before .before .before .before .before .args) in tape-away (now (a .text)) (a .state) (now (a .tape)) (now (a .calls)) (now (a .notices)) (was-refused _ (told ((c .before .before .before .before .fit) .ensures) ((c .before .before .refusal) .given .1))) (c .refused .ensures)
+returns c =
+    let a = c .before .before .before .before .before .before .before .before .before .args in
+    not-fitting (now (a .text)) (a .state) (now (a .tape)) (now (a .calls)) (now (a .notices)) (told (c .before .before .before .before .fit .ensures) (c .before .before .refusal .given .1)) (c .refused .ensures)
 
 same-length : tie.Need-same-length
 same-length c = search needs
@@ -32,7 +32,7 @@ same-length-2 : tie.Need-same-length-2
 same-length-2 c = search needs
 
 returns-2 : tie.Need-returns-2
-returns-2 c = (c .before .before .before .before .write) .ensures
+returns-2 c = c .before .before .before .before .write .ensures
 
 pub lower-checked-spec : {M : Type 1} → statement M
 lower-checked-spec =

@@ -1,9 +1,6 @@
-use Prim.Native.Nat.{_-_}
 use denote.Ref.{now}
-use lib.ListN.{length}
-use mathlib.Core.Path.{_≡_, sym, _∙_}
 use Rattle.text.proofs.Lists.{told}
-use Rattle.lowering.proofs.Judging.{tape-away, bad-tape}
+use Rattle.lowering.proofs.Judging.{bad-tape}
 use borrow.Author.Needs.{needs}
 use Rattle.lowering.proofs.lower_tape.Statement.{statement}
 use Rattle.lowering.proofs.lower_tape.Tie as tie
@@ -21,10 +18,13 @@ enum-told : tie.Need-enum-told
 enum-told c = search needs
 
 lower-checked-requires : tie.Need-lower-checked-requires
-lower-checked-requires c κs = record { unforged = (c .before .before .before .before .before .before .before .before .before .pre); reads = told ((c .before .before .before .before .check-root) .ensures) ((c .before .before .enum-told) .given .1) }
+lower-checked-requires c κs =
+    record { unforged = (c .before .before .before .before .before .before .before .before .before .pre); reads = told (c .before .before .before .before .check-root .ensures) (c .before .before .enum-told .given .1) }
 
 returns : tie.Need-returns
-returns c = let a = (c .before .before .before .before .before .before .before .before .before .args) in tape-away (now (a .text)) (a .state) (now (a .tape)) (now (a .calls)) (now (a .notices)) (bad-tape (now (a .text)) (a .state) (now (a .tape)) (length (now (a .calls))) (length (now (a .notices))) _ _ (told ((c .before .before .before .before .check-root) .ensures) ((c .before .before .fault) .given .1))) (c .refused .ensures)
+returns c =
+    let a = c .before .before .before .before .before .before .before .before .before .args in
+    bad-tape (now (a .text)) (a .state) (now (a .tape)) (now (a .calls)) (now (a .notices)) _ _ (told (c .before .before .before .before .check-root .ensures) (c .before .before .fault .given .1)) (c .refused .ensures)
 
 same-length : tie.Need-same-length
 same-length c = search needs
@@ -33,7 +33,7 @@ same-length-2 : tie.Need-same-length-2
 same-length-2 c = search needs
 
 returns-2 : tie.Need-returns-2
-returns-2 c = (c .before .before .before .before .lower-checked) .ensures
+returns-2 c = c .before .before .before .before .lower-checked .ensures
 
 pub lower-tape-spec : {M : Type 1} → statement M
 lower-tape-spec =

@@ -1,5 +1,5 @@
 use mathlib.Core.Path.{_≡_, sym, _∙_}
-use Prim.Native.Nat.{_<_, _-_, _^_}
+use Prim.Native.Nat.{_<_, _^_}
 use native.Mathlib.Omega.{arith}
 use lib.ListN.{length, length-map}
 use denote.Ref.{now}
@@ -18,7 +18,7 @@ pen-over-requires : tie.Need-pen-over-requires
 pen-over-requires c κs = search needs
 
 lower-requires : tie.Need-lower-requires
-lower-requires c κs = ((c .before .before .before .before .before .before .before .before .pre) .0 .unforged .spelled .short, ((c .before .before .before .before .before .before .before .before .pre) .0 .unforged .spelled .formed, ?))
+lower-requires c κs = (c .before .before .before .before .before .before .before .before .pre .0 .unforged .spelled .short, (c .before .before .before .before .before .before .before .before .pre .0 .unforged .spelled .formed, ?))
 
 same-length : tie.Need-same-length
 same-length c = search needs
@@ -28,8 +28,8 @@ same-length-2 c = search needs
 
 returns : tie.Need-returns
 returns c =
-    let s = (c .before .before .before .before .before .before .before .before .before .before .before .before .before .before .before) in
-    written (s .pre .0) (s .pre .1) (eight s) (short s .0) (short s .1) ((c .before .before .before .before .before .before .before .pen-over) .ensures) ((c .before .before .before .before .before .before .lower) .ensures)
+    let s = c .before .before .before .before .before .before .before .before .before .before .before .before .before .before .before in
+    written (s .pre .0) (s .pre .1) (eight s) (short s .0) (short s .1) (c .before .before .before .before .before .before .before .pen-over .ensures) (c .before .before .before .before .before .before .lower .ensures)
 
 pub write-spec : {M : Type 1} → statement M
 write-spec =
