@@ -1,0 +1,61 @@
+// Lines of hexadecimal bytes, laid out in a lent target.
+ghost use mathlib.Core.Path.{_≡_};
+ghost use mathlib.Core.List.{[], _∷_, _++_};
+ghost use Prim.Native.Nat.{_+_, _/_, _%_, _≤_, _<_, _^_};
+ghost use lib.ListN.{length};
+ghost use Rattle.tape.specs.Targets.{Wrote};
+ghost use Rattle.printing.specs.Lines.{hexDigit, hexOf, hexBytes, lineOf};
+use tape::target::put;
+use tape::target::put_two;
+
+fn digit(n: u8) -> u8
+    requires { ⌜ n < 16 ⌝ }
+    ensures { λ r. ⌜ r ≡ hexDigit n ⌝ }
+{
+    if n < 10 {
+        return 0x30 + n;
+    }
+    0x57 + n
+}
+
+// A space and the two digits of a byte.
+fn put_byte(out: &mut [u8], at: usize, b: u8) -> usize
+    ensures { λ r. ⌜ Wrote (now (out .entry)) (now (out .exit)) at r (hexOf b) ⌝ }
+{
+    let next = put(out, at, 0x20);
+    put_two(out, next, digit(b / 16), digit(b % 16))
+}
+
+fn put_bytes(bytes: &[u8], out: &mut [u8], at: usize) -> usize
+    requires { ⌜ at ≤ 2 ^ 63 ⌝ }
+    ensures { λ r. ⌜ Wrote (now (out .entry)) (now (out .exit)) at r (hexBytes (now (bytes .entry))) ⌝ }
+{
+    let mut i: usize = 0;
+    let mut next = at;
+    while i < bytes.len() {
+        next = put_byte(out, next, bytes[i]);
+        i += 1;
+    }
+    next
+}
+
+fn put_word(word: &[u8], out: &mut [u8]) -> usize
+    ensures { λ r. ⌜ Wrote (now (out .entry)) (now (out .exit)) 0 r (now (word .entry)) ⌝ }
+{
+    let mut i: usize = 0;
+    let mut next: usize = 0;
+    while i < word.len() {
+        next = put(out, next, word[i]);
+        i += 1;
+    }
+    next
+}
+
+// A word, its bytes and a line feed. The answer tells how long the line is; it is whole where the target has room for it.
+pub fn put_line(word: &[u8], bytes: &[u8], out: &mut [u8]) -> usize
+    ensures { λ r. ⌜ Wrote (now (out .entry)) (now (out .exit)) 0 r (lineOf (now (word .entry)) (now (bytes .entry))) ⌝ }
+{
+    let worded = put_word(word, out);
+    let filled = put_bytes(bytes, out, worded);
+    put(out, filled, 0x0a)
+}
