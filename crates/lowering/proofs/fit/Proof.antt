@@ -23,7 +23,7 @@ pen-over-requires : tie.Need-pen-over-requires
 pen-over-requires c κs = search needs
 
 lower-requires : tie.Need-lower-requires
-lower-requires c κs = (c .before .before .before .before .before .before .pre .unforged .spelled .short, (c .before .before .before .before .before .before .pre .unforged .spelled .formed, ?))
+lower-requires c κs = (c .before .before .before .before .before .before .pre .unforged .spelled .short, c .before .before .before .before .before .before .pre .unforged .spelled .formed)
 
 returns : tie.Need-returns
 returns c = no-number (told (c .before .before .before)) (c .if1 .taken)

@@ -18,7 +18,7 @@ pen-over-requires : tie.Need-pen-over-requires
 pen-over-requires c κs = search needs
 
 lower-requires : tie.Need-lower-requires
-lower-requires c κs = (c .before .before .before .before .before .before .before .before .pre .0 .unforged .spelled .short, (c .before .before .before .before .before .before .before .before .pre .0 .unforged .spelled .formed, ?))
+lower-requires c κs = (c .before .before .before .before .before .before .before .before .pre .0 .unforged .spelled .short, c .before .before .before .before .before .before .before .before .pre .0 .unforged .spelled .formed)
 
 same-length : tie.Need-same-length
 same-length c = search needs
