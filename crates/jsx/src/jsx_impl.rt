@@ -1,4 +1,4 @@
-// The parts of a root's tree (jsx_impl.rs) that hold no element. A tape that does not read gives nothing of use: it has been refused before.
+// From a root tape that was checked to calls and notices (jsx_impl.rs). A tape that does not read gives nothing of use: it has been refused before.
 ghost use mathlib.Core.Path.{_≡_};
 ghost use lib.Dec.{eqb};
 ghost use lib.ListN.{length, drop};
@@ -473,6 +473,8 @@ fn transform_jsx_text(text: &[u8], span: Span, calls: &mut [u8], pen: Pen) -> It
 }
 
 // ---- the recursion
+// Its functions' names are short: together they name the files of their one proof, and a longer file name would not be kept, so that every crate
+// above would prove them again.
 
 // A value of an attribute.
 fn transform_jsx_attribute_value(
@@ -526,7 +528,7 @@ fn transform_jsx_attribute_value(
             }
         }
         ValueCommand::Fragment(_) => {
-            let node = transform_fragment(text, settings, allowed, &tape[9..], calls, notices, pen);
+            let node = fragment(text, settings, allowed, &tape[9..], calls, notices, pen);
             let end = node.pen;
             Lowered {
                 pen: end,
@@ -539,7 +541,7 @@ fn transform_jsx_attribute_value(
 }
 
 // An attribute whose name is written: its value, behind n bytes.
-fn value_behind(
+fn behind(
     text: &[u8],
     settings: Settings,
     allowed: bool,
@@ -598,7 +600,7 @@ fn plain(
 {
     let told = key_notice(text, span, &tape[5..], notices, pen);
     let named = get_attribute_name(text, calls, told, span);
-    value_behind(text, settings, allowed, tape, 5, calls, notices, named, key)
+    behind(text, settings, allowed, tape, 5, calls, notices, named, key)
 }
 
 // The attribute at the front. In an automatic call a key with a value is no property: its place is told.
@@ -632,7 +634,7 @@ fn attribute(
         AttributeCommand::Namespaced(namespace, name) => {
             let named = put_bare(calls, pen, 0x84);
             let begun = put_namespaced(calls, named, namespace, name);
-            value_behind(text, settings, allowed, tape, 9, calls, notices, begun, 0)
+            behind(text, settings, allowed, tape, 9, calls, notices, begun, 0)
         }
         AttributeCommand::Spread(e) => {
             let end = put_over(calls, pen, 0x86, e);
@@ -670,7 +672,7 @@ fn attribute(
 }
 
 // The attributes up to the 1e.
-fn attributes(
+fn attrs(
     text: &[u8],
     settings: Settings,
     allowed: bool,
@@ -784,7 +786,7 @@ fn transform_jsx_child(
             }
         }
         ChildCommand::Fragment(_) => {
-            let node = transform_fragment(text, settings, allowed, &tape[9..], calls, notices, pen);
+            let node = fragment(text, settings, allowed, &tape[9..], calls, notices, pen);
             let end = node.pen;
             Items {
                 pen: end,
@@ -857,7 +859,7 @@ fn children(
 }
 
 // The children of an automatic call and the end of its object. Where no child survives, the object's end takes the place of the children's begin.
-fn child_object(
+fn inner(
     text: &[u8],
     settings: Settings,
     allowed: bool,
@@ -900,7 +902,7 @@ fn child_object(
 }
 
 // The value of the last key, which stands at `key`, or what stands for none.
-fn key_value(
+fn key_of(
     text: &[u8],
     settings: Settings,
     allowed: bool,
@@ -933,7 +935,7 @@ fn key_value(
 }
 
 // An automatic call of an element whose name takes `at` bytes.
-fn automatic_call(
+fn automatic(
     text: &[u8],
     settings: Settings,
     allowed: bool,
@@ -953,7 +955,7 @@ fn automatic_call(
 {
     let begun = put_byte(calls, pen, 0x80, 1);
     let object = put_bare(calls, begun, 0x81);
-    let props = attributes(
+    let props = attrs(
         text,
         settings,
         allowed,
@@ -965,7 +967,7 @@ fn automatic_call(
     );
     let inside = props.pen;
     let from = at + props.used;
-    let items = child_object(
+    let items = inner(
         text,
         settings,
         allowed,
@@ -976,7 +978,7 @@ fn automatic_call(
     );
     let ended = items.pen;
     let count = items.count;
-    let keyed = key_value(
+    let keyed = key_of(
         text,
         settings,
         allowed,
@@ -999,7 +1001,7 @@ fn automatic_call(
 }
 
 // The object of a classic call, or null in its place where there is no property.
-fn object_or_null(
+fn or_null(
     text: &[u8],
     settings: Settings,
     allowed: bool,
@@ -1016,7 +1018,7 @@ fn object_or_null(
         Written (objectOf (classicProperties (context (now (text .entry)) settings allowed) place a)) u (now (calls .entry)) (now (calls .exit)) (now (notices .entry)) (now (notices .exit)) pen (r .pen) (r .used)) ⌝ }
 {
     let begun = put_bare(calls, pen, 0x81);
-    let props = attributes(text, settings, allowed, true, tape, calls, notices, begun);
+    let props = attrs(text, settings, allowed, true, tape, calls, notices, begun);
     let inside = props.pen;
     let used = props.used;
     let added = self_output(settings, allowed, calls, inside);
@@ -1061,12 +1063,12 @@ fn argument(
                 used: used,
             }
         }
-        Lone::Object => object_or_null(text, settings, allowed, tape, place, calls, notices, pen),
+        Lone::Object => or_null(text, settings, allowed, tape, place, calls, notices, pen),
     }
 }
 
 // A classic call of an element whose name takes `at` bytes.
-fn classic_call(
+fn create(
     text: &[u8],
     settings: Settings,
     allowed: bool,
@@ -1135,7 +1137,7 @@ fn transform_jsx(
 {
     let at = skip_name(tape);
     if is_classic_element(text, settings, &tape[at..]) {
-        return classic_call(
+        return create(
             text,
             settings,
             allowed,
@@ -1147,7 +1149,7 @@ fn transform_jsx(
             pen,
         );
     }
-    automatic_call(
+    automatic(
         text,
         settings,
         allowed,
@@ -1161,7 +1163,7 @@ fn transform_jsx(
 }
 
 // A fragment behind its 11 and place.
-fn transform_fragment(
+fn fragment(
     text: &[u8],
     settings: Settings,
     allowed: bool,
@@ -1178,12 +1180,12 @@ fn transform_fragment(
 {
     let mode = settings.mode;
     if is_classic(mode) {
-        return bare_classic(text, settings, allowed, tape, calls, notices, pen);
+        return bare(text, settings, allowed, tape, calls, notices, pen);
     }
-    bare_automatic(text, settings, allowed, tape, calls, notices, pen)
+    bare_auto(text, settings, allowed, tape, calls, notices, pen)
 }
 
-fn bare_classic(
+fn bare(
     text: &[u8],
     settings: Settings,
     allowed: bool,
@@ -1212,7 +1214,7 @@ fn bare_classic(
     }
 }
 
-fn bare_automatic(
+fn bare_auto(
     text: &[u8],
     settings: Settings,
     allowed: bool,
@@ -1229,7 +1231,7 @@ fn bare_automatic(
 {
     let begun = put_byte(calls, pen, 0x80, 1);
     let object = put_bare(calls, begun, 0x81);
-    let items = child_object(text, settings, allowed, tape, calls, notices, object);
+    let items = inner(text, settings, allowed, tape, calls, notices, object);
     let ended = items.pen;
     let count = items.count;
     let keyed = no_key(settings, calls, ended);
@@ -1275,7 +1277,7 @@ fn transform_root(
             node.pen
         }
         ScopeCommand::Fragment(_) => {
-            let node = transform_fragment(text, settings, allowed, &tape[9..], calls, notices, pen);
+            let node = fragment(text, settings, allowed, &tape[9..], calls, notices, pen);
             node.pen
         }
         ScopeCommand::Scope(_) => pen,

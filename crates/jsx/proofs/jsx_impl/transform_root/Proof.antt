@@ -13,7 +13,7 @@ use Rattle.jsx.proofs.jsx_impl.transform_root.Tie as tie
 use Rattle.jsx.proofs.jsx_impl.transform_root.Reads as reads
 use Rattle.jsx.proofs.jsx_impl.transform_root.Lts as lts
 use Rattle.commands.proofs.root.scope_command_at.Reads as scope-command-at-reads
-use Rattle.jsx.proofs.jsx_impl.transform_fragment.Reads as transform-fragment-reads
+use Rattle.jsx.proofs.jsx_impl.fragment.Reads as fragment-reads
 use Rattle.jsx.proofs.jsx_impl.transform_jsx.Reads as transform-jsx-reads
 
 scope-command-at-requires : tie.Need-scope-command-at-requires
@@ -37,17 +37,17 @@ transform-jsx-requires c κs = search needs
 enum-told : tie.Need-enum-told
 enum-told c = search needs
 
-sub-transform-fragment : tie.Need-sub-transform-fragment
-sub-transform-fragment c = omega (arith, (scope-fits true ((c .before .before .before .before .before .before .before .args) .tape .now) (told ((c .before .before .scope-command-at) .ensures) ((c .enum-told) .given .1))))
+sub-fragment : tie.Need-sub-fragment
+sub-fragment c = omega (arith, (scope-fits true ((c .before .before .before .before .before .before .before .args) .tape .now) (told ((c .before .before .scope-command-at) .ensures) ((c .enum-told) .given .1))))
 
-part-transform-fragment-start : tie.Need-part-transform-fragment-start
-part-transform-fragment-start c = omega (arith, (scope-fits true ((c .before .before .before .before .before .before .before .args) .tape .now) (told ((c .before .before .scope-command-at) .ensures) ((c .enum-told) .given .1))))
+part-fragment-start : tie.Need-part-fragment-start
+part-fragment-start c = omega (arith, (scope-fits true ((c .before .before .before .before .before .before .before .args) .tape .now) (told ((c .before .before .scope-command-at) .ensures) ((c .enum-told) .given .1))))
 
-part-transform-fragment-end : tie.Need-part-transform-fragment-end
-part-transform-fragment-end c = search needs
+part-fragment-end : tie.Need-part-fragment-end
+part-fragment-end c = search needs
 
-transform-fragment-requires : tie.Need-transform-fragment-requires
-transform-fragment-requires c κs = search needs
+fragment-requires : tie.Need-fragment-requires
+fragment-requires c κs = search needs
 
 enum-told-2 : tie.Need-enum-told-2
 enum-told-2 c = search needs
@@ -77,7 +77,7 @@ same-length-4 : tie.Need-same-length-4
 same-length-4 c = search needs
 
 returns-2 : tie.Need-returns-2
-returns-2 c = root-fragment (context ((c .before .before .before .before .before .before .before .before .before .before .before .before .before .before .before .before .args) .text .now) ((c .before .before .before .before .before .before .before .before .before .before .before .before .before .before .before .before .args) .settings) ((c .before .before .before .before .before .before .before .before .before .before .before .before .before .before .before .before .args) .allowed)) ((c .before .before .before .before .before .before .before .before .before .before .before .before .before .before .before .before .args) .tape .now) _ (tail-part ((c .before .before .before .before .before .before .before .before .before .before .before .before .before .before .before .before .args) .tape .now) 9) (scope-fits true ((c .before .before .before .before .before .before .before .before .before .before .before .before .before .before .before .before .args) .tape .now) (told ((c .before .before .before .before .before .before .before .before .before .before .before .scope-command-at) .ensures) ((c .before .before .before .before .before .before .before .before .before .enum-told) .given .1))) _ (told ((c .before .before .before .before .before .before .before .before .before .before .before .scope-command-at) .ensures) ((c .before .before .before .before .before .before .before .before .before .enum-told) .given .1)) ((c .before .before .before .before .before .transform-fragment) .ensures .1)
+returns-2 c = root-fragment (context ((c .before .before .before .before .before .before .before .before .before .before .before .before .before .before .before .before .args) .text .now) ((c .before .before .before .before .before .before .before .before .before .before .before .before .before .before .before .before .args) .settings) ((c .before .before .before .before .before .before .before .before .before .before .before .before .before .before .before .before .args) .allowed)) ((c .before .before .before .before .before .before .before .before .before .before .before .before .before .before .before .before .args) .tape .now) _ (tail-part ((c .before .before .before .before .before .before .before .before .before .before .before .before .before .before .before .before .args) .tape .now) 9) (scope-fits true ((c .before .before .before .before .before .before .before .before .before .before .before .before .before .before .before .before .args) .tape .now) (told ((c .before .before .before .before .before .before .before .before .before .before .before .scope-command-at) .ensures) ((c .before .before .before .before .before .before .before .before .before .enum-told) .given .1))) _ (told ((c .before .before .before .before .before .before .before .before .before .before .before .scope-command-at) .ensures) ((c .before .before .before .before .before .before .before .before .before .enum-told) .given .1)) ((c .before .before .before .before .before .fragment) .ensures .1)
 
 returns-3 : tie.Need-returns-3
 returns-3 c = λ n h. no-node ((c .before .before .before .before .before .before .before .args) .text .now) ((c .before .before .before .before .before .before .before .args) .tape .now) n _ (scope _) (told ((c .before .before .scope-command-at) .ensures) ((c .enum-told2) .given .1)) h
@@ -102,10 +102,10 @@ transform-root-spec =
     part-transform-jsx-end
     transform-jsx-requires
     enum-told
-    sub-transform-fragment
-    part-transform-fragment-start
-    part-transform-fragment-end
-    transform-fragment-requires
+    sub-fragment
+    part-fragment-start
+    part-fragment-end
+    fragment-requires
     enum-told-2
     enum-told-3
     enum-told-4
