@@ -144,7 +144,75 @@ table =
     gives output (printed (hex "80 00 81 86 05 00 82 9e 8a 8b 00 00 01 00 8d 9f 98 00 a0 01") [] []))
     ∷ []
 
-pub proved-set : map (λ r. replyTo (r .asked)) table ≡ map (λ r. r .expected) table
+-- ---- how open places were read (docs/DECISIONS.md): what is expected was computed by another program, from the specification's text
+
+abbrev pub readings : List Row
+readings =
+    -- an automatic call of a fragment has no A1 and no A2, and makes no file name: the self and the source plugin are on
+    (prints (hex "61 86 00") (ascii "") (hex "01 00 02 03 11 00 00 00 00 00 00 00 00 1f")
+    gives output (printed (hex "80 01 81 82 9e 96 00 9f 96 01 a0 01") [] (hex "b0 01 b1 00 00 b1 02 01")))
+    -- the same in a script
+    ∷ (prints (hex "61 06 00") (ascii "") (hex "01 00 02 03 11 00 00 00 00 00 00 00 00 1f")
+    gives output (printed (hex "80 01 81 82 9e 96 00 99 00 9f 96 00 99 02 a0 01") [] (hex "b0 01 b2 00")))
+    -- empty text is one line and survives as the empty string
+    ∷ (prints (hex "61 81 00") (ascii "a") (hex "01 00 02 03 10 00 00 00 00 00 00 00 00 20 00 00 01 00 1e 50 01 00 00 00 1f")
+    gives output (printed (hex "80 01 81 9a 8a 8d 9b 00 82 9e 8a 8b 00 00 01 00 8d 9f 96 00 a0 01") [] (hex "b0 01 b1 02 00")))
+    -- `key` with an empty container has a value, and there is no notice
+    ∷ (prints (hex "61 81 00") (ascii "akey") (hex "01 00 02 03 10 00 00 00 00 00 00 00 00 20 00 00 01 00 30 01 00 03 00 43 1e 1f")
+    gives output (printed (hex "80 01 81 82 9d 90 9e 8a 8b 00 00 01 00 8d 9f 96 00 a0 01") [] (hex "b0 01 b1 02 00")))
+    -- a valueless key gives C0 and `key: true`, and leaves an earlier value alone
+    ∷ (prints (hex "61 81 00") (ascii "akey") (hex "01 00 02 03 10 00 00 00 00 00 00 00 00 20 00 00 01 00 30 01 00 03 00 42 07 00 30 01 00 03 00 40 1e 1f")
+    gives output (printed (hex "80 01 81 83 01 00 03 00 90 82 9d 94 07 00 9e 8a 8b 00 00 01 00 8d 9f 96 00 a0 01") (hex "c0 01 00 03 00") (hex "b0 01 b1 02 00")))
+    -- an automatic key that a later one overrides leaves no call and no binding: there is no Fragment
+    ∷ (prints (hex "61 81 00") (ascii "akey") (hex "01 00 02 03 10 00 00 00 00 00 00 00 00 20 00 00 01 00 30 01 00 03 00 11 00 00 00 00 00 00 00 00 1f 30 01 00 03 00 42 07 00 1e 1f")
+    gives output (printed (hex "80 01 81 82 9d 94 07 00 9e 8a 8b 00 00 01 00 8d 9f 96 00 a0 01") [] (hex "b0 01 b1 02 00")))
+    -- the last key's value is lowered after the children: Fragment, in the child, is bound before createElement, in the key
+    ∷ (prints (hex "61 81 00") (ascii "akey") (hex "01 00 02 03 10 00 00 00 00 00 00 00 00 20 00 00 01 00 30 01 00 03 00 10 00 00 00 00 00 00 00 00 20 00 00 01 00 32 05 00 30 01 00 03 00 42 06 00 1e 1f 1e 11 00 00 00 00 00 00 00 00 1f 1f")
+    gives output (printed (hex "80 01 81 9a 80 01 81 82 9e 96 00 9f 96 01 a0 01 9b 00 82 9d 80 00 81 86 05 00 83 01 00 03 00 94 06 00 82 9e 8a 8b 00 00 01 00 8d 9f 96 02 a0 01 9e 8a 8b 00 00 01 00 8d 9f 96 01 a0 01") [] (hex "b0 01 b1 00 00 b1 02 01 b0 00 b1 01 02")))
+    -- a key after a spread: 80 00, every attribute a property, callee createElement of source 0, in development too; an element inside chooses for itself
+    ∷ (prints (hex "61 91 00") (ascii "akey") (hex "01 00 02 03 10 00 00 00 00 00 00 00 00 20 00 00 01 00 32 05 00 30 01 00 03 00 42 06 00 1e 10 00 00 00 00 00 00 00 00 20 00 00 01 00 1e 1f 1f")
+    gives output (printed (hex "80 00 81 86 05 00 83 01 00 03 00 94 06 00 a2 a1 00 01 00 00 00 01 00 00 00 82 80 01 81 82 92 91 a1 00 01 00 00 00 01 00 00 00 a2 9e 8a 8b 00 00 01 00 8d 9f 96 01 a0 01 9e 8a 8b 00 00 01 00 8d 9f 96 02 a0 01") [] (hex "b0 01 b1 04 01 b0 00 b1 01 02 b3 00 00")))
+    -- classic call: the file name is numbered before what the children bind
+    ∷ (prints (hex "61 84 00") (ascii "akey") (hex "01 00 02 03 10 00 00 00 00 00 00 00 00 20 00 00 01 00 32 05 00 30 01 00 03 00 42 06 00 1e 11 00 00 00 00 00 00 00 00 1f 1f")
+    gives output (printed (hex "80 00 81 86 05 00 83 01 00 03 00 94 06 00 a1 00 01 00 00 00 01 00 00 00 82 80 01 81 82 9e 96 01 9f 96 02 a0 01 9e 8a 8b 00 00 01 00 8d 9f 96 03 a0 01") [] (hex "b0 01 b1 00 01 b1 02 02 b0 00 b1 01 03 b3 00 00")))
+    -- automatic call: the file name is numbered after what the children bind
+    ∷ (prints (hex "61 84 00") (ascii "a") (hex "01 00 02 03 10 00 00 00 00 00 00 00 00 20 00 00 01 00 1e 11 00 00 00 00 00 00 00 00 1f 1f")
+    gives output (printed (hex "80 01 81 9a 80 01 81 82 9e 96 00 9f 96 01 a0 01 9b 00 82 a1 02 01 00 00 00 01 00 00 00 9e 8a 8b 00 00 01 00 8d 9f 96 01 a0 01") [] (hex "b0 01 b1 00 00 b1 02 01 b3 02 00")))
+    -- C0 when the attribute is met, C1 when the tag is made, after everything inside
+    ∷ (prints (hex "61 a1 00") (ascii "abkey") (hex "01 00 02 03 10 00 00 00 00 00 00 00 00 23 00 00 01 00 01 00 01 00 1e 10 00 00 00 00 00 00 00 00 20 00 00 01 00 30 02 00 03 00 40 1e 1f 1f")
+    gives output (printed (hex "80 01 81 9a 80 01 81 83 02 00 03 00 90 82 9e 8a 8b 00 00 01 00 8d 9f 96 00 a0 01 9b 00 82 9e 8a 8b 00 00 01 00 8e 8b 01 00 01 00 8d 9f 96 00 a0 01") (hex "c0 02 00 03 00 c1 00 00 01 00 01 00 01 00") (hex "b0 01 b1 02 00")))
+    --  before  at the end of a classic call
+    ∷ (prints (hex "61 8e 00") (ascii "a") (hex "01 00 02 03 10 00 00 00 00 00 00 00 00 20 00 00 01 00 1e 1f")
+    gives output (printed (hex "80 00 81 a2 a1 00 01 00 00 00 01 00 00 00 82 9e 8a 8b 00 00 01 00 8d 9f 98 00 a0 01") [] (hex "b3 00 00")))
+    -- source before self in an automatic call
+    ∷ (prints (hex "61 86 00") (ascii "a") (hex "01 00 02 03 10 00 00 00 00 00 00 00 00 20 00 00 01 00 1e 1f")
+    gives output (printed (hex "80 01 81 82 a1 00 01 00 00 00 01 00 00 00 a2 9e 8a 8b 00 00 01 00 8d 9f 96 01 a0 01") [] (hex "b0 01 b1 02 01 b3 00 00")))
+    -- no self in a constructor of a derived class
+    ∷ (prints (hex "61 82 00") (ascii "a") (hex "01 02 02 00 02 02 10 00 00 00 00 00 00 00 00 20 00 00 01 00 1e 1f")
+    gives output (printed (hex "80 01 81 82 9e 8a 8b 00 00 01 00 8d 9f 96 00 a0 01") [] (hex "b0 01 b1 02 00")))
+    -- a literal with `__proto__` is one 86, in an automatic call too; any other is carried over
+    ∷ (prints (hex "61 81 00") (ascii "a__proto__") (hex "01 00 02 03 10 00 00 00 00 00 00 00 00 20 00 00 01 00 33 05 00 34 06 00 36 07 00 01 00 09 00 35 33 08 00 34 09 00 35 1e 1f")
+    gives output (printed (hex "80 01 81 86 05 00 87 09 00 82 9e 8a 8b 00 00 01 00 8d 9f 96 00 a0 01") [] (hex "b0 01 b1 02 00")))
+    -- records of a script: groups in order of first use, source 0 in front, the file name last
+    ∷ (prints (hex "61 04 00") (ascii "akey") (hex "01 00 02 03 10 00 00 00 00 00 00 00 00 20 00 00 01 00 1e 10 00 00 00 00 00 00 00 00 20 00 00 01 00 32 05 00 30 01 00 03 00 42 06 00 1e 1f 1f")
+    gives output (printed (hex "80 01 81 9a 80 00 81 86 05 00 83 01 00 03 00 94 06 00 a1 00 01 00 00 00 01 00 00 00 82 9e 8a 8b 00 00 01 00 8d 9f 96 01 99 01 a0 01 9b 00 82 a1 00 01 00 00 00 01 00 00 00 9e 8a 8b 00 00 01 00 8d 9f 96 02 99 02 a0 01") [] (hex "b0 00 b2 01 b0 01 b2 02 b3 00 01")))
+    -- a name with a hyphen and a namespaced one are strings
+    ∷ (prints (hex "61 81 00") (ascii "aa-b") (hex "01 00 02 03 10 00 00 00 00 00 00 00 00 20 00 00 01 00 30 01 00 03 00 41 00 00 01 00 31 00 00 01 00 01 00 01 00 40 1e 1f")
+    gives output (printed (hex "80 01 81 84 8a 8b 01 00 03 00 8d 8a 8b 00 00 01 00 8d 84 8a 8b 00 00 01 00 8e 8b 01 00 01 00 8d 90 82 9e 8a 8b 00 00 01 00 8d 9f 96 00 a0 01") [] (hex "b0 01 b1 02 00")))
+    -- a value may not stand among children: 3 at its offset
+    ∷ (prints (hex "61 81 00") (ascii "a") (hex "01 00 02 03 10 00 00 00 00 00 00 00 00 20 00 00 01 00 1e 40 1f")
+    gives output (refusedWith 3 19))
+    -- 7: an ampersand, also in a key that is never lowered
+    ∷ (prints (hex "61 81 00") (ascii "akey&") (hex "01 00 02 03 10 00 00 00 00 00 00 00 00 20 00 00 01 00 30 01 00 03 00 41 04 00 01 00 30 01 00 03 00 42 07 00 1e 1f")
+    gives output (refusedWith 7 23))
+    ∷ []
+
+-- ---- the claims
+
+abbrev pub Answered : List Row → Type 0
+Answered rows = map (λ r. replyTo (r .asked)) rows ≡ map (λ r. r .expected) rows
+
+computed : Answered table × Answered readings
 unfolding replyTo pairOf digit hexOf
     same findFrom within width after illFrom firstIll charOf isWhiteSpace isLineTerminator partOf cutsAt boundsOf
     faultNumber numberOf figureOf flagsCommand optionCommand
@@ -163,4 +231,10 @@ unfolding replyTo pairOf digit hexOf
     inOrder borneOut rootNumber numberedFrom unrepeated allBindable sound
     loweredAfter fitted judgeRoot recordsFrom moved judgeRecords
     printRecords printRoot printOpening jsxtape
-proved-set = refl
+computed = (refl, refl)
+
+pub proved-set : Answered table
+proved-set = computed .0
+
+pub readings-set : Answered readings
+readings-set = computed .1
