@@ -1,4 +1,6 @@
 // Lowering a root: document 01's refusals in their order, then calls and notices into their targets.
+pub mod series;
+
 ghost use mathlib.Core.Path.{_≡_};
 ghost use mathlib.Core.Bool.{false};
 ghost use lib.ListN.{length};
