@@ -1,0 +1,165 @@
+use borrow.Author.Needs.{needs}
+use Rattle.files.proofs.Lines.{none-left, one-digit, more-digits}
+use Prim.Native.Nat.{ℕ, suc, _≤_, _<_, _+_, _-_}
+use native.Mathlib.Omega.{arith}
+use mathlib.Core.Path.{_≡_, refl, sym, ap, subst, _∙_}
+use lib.ListN.{length, getD, take, drop}
+use borrow.Fn.Kinds.{In}
+use borrow.Fn.PlainCycle.{Measures, is, falls, and}
+use Rattle.files.proofs.put_decimal.Reads as put-decimal
+use Rattle.files.proofs.put_decimal.Kinds as put-decimal-kinds
+use Rattle.files.proofs.+put_decimal.Lts-put_decimal as put-decimal-lts
+use Rattle.tape.proofs.target.put.Reads as put-reads
+use Rattle.files.proofs.+put_decimal.{statement}
+use Rattle.files.proofs.+put_decimal.Tie.{close}
+
+abbrev μ-put-decimal : Measures 1 put-decimal-kinds.ps ℕ
+μ-put-decimal κs a = a .1 .0
+
+abbrev put-decimal-at : ℕ → In 1 put-decimal-kinds.ps
+put-decimal-at t =
+    and 1 put-decimal-kinds.ps (is 1 put-decimal-kinds.ps μ-put-decimal t) put-decimal.Pre
+
+abbrev put-decimal-below : ℕ → In 1 put-decimal-kinds.ps
+put-decimal-below t =
+    and 1 put-decimal-kinds.ps (falls 1 put-decimal-kinds.ps _<_ μ-put-decimal t) put-decimal.Pre
+
+-- src/lib.rt:47:9
+put-decimal-returns : (t : ℕ) → put-decimal-lts.Need-returns (
+  put-reads.Asked,
+  put-reads.Learnt,
+  put-decimal-below t,
+  put-decimal.Post,
+) (put-decimal-at t) put-decimal.Post
+put-decimal-returns t c = none-left _ _ ((c .if1) .taken) (omega arith)
+
+-- src/lib.rt:50:36
+put-decimal-cast-put : (t : ℕ) → put-decimal-lts.Need-cast-put (
+  put-reads.Asked,
+  put-reads.Learnt,
+  put-decimal-below t,
+  put-decimal.Post,
+) (put-decimal-at t) put-decimal.Post
+put-decimal-cast-put t c = search needs
+
+-- src/lib.rt:50:29
+put-decimal-add-put : (t : ℕ) → put-decimal-lts.Need-add-put (
+  put-reads.Asked,
+  put-reads.Learnt,
+  put-decimal-below t,
+  put-decimal.Post,
+) (put-decimal-at t) put-decimal.Post
+put-decimal-add-put t c = search needs
+
+-- src/lib.rt:50:9
+put-decimal-put-requires : (t : ℕ) → put-decimal-lts.Need-put-requires (
+  put-reads.Asked,
+  put-reads.Learnt,
+  put-decimal-below t,
+  put-decimal.Post,
+) (put-decimal-at t) put-decimal.Post
+put-decimal-put-requires t c κs = search needs
+
+-- src/lib.rt:50:9
+put-decimal-same-length : (t : ℕ) → put-decimal-lts.Need-same-length (
+  put-reads.Asked,
+  put-reads.Learnt,
+  put-decimal-below t,
+  put-decimal.Post,
+) (put-decimal-at t) put-decimal.Post
+put-decimal-same-length t c = search needs
+
+-- src/lib.rt:50:9
+put-decimal-returns-2 : (t : ℕ) → put-decimal-lts.Need-returns-2 (
+  put-reads.Asked,
+  put-reads.Learnt,
+  put-decimal-below t,
+  put-decimal.Post,
+) (put-decimal-at t) put-decimal.Post
+put-decimal-returns-2 t c = one-digit _ _ (omega arith) ((c .before .before .before .before .if2) .taken) ((c .before .before .put) .ensures)
+
+-- src/lib.rt:52:36
+put-decimal-sub-put-decimal : (t : ℕ) → put-decimal-lts.Need-sub-put-decimal (
+  put-reads.Asked,
+  put-reads.Learnt,
+  put-decimal-below t,
+  put-decimal.Post,
+) (put-decimal-at t) put-decimal.Post
+put-decimal-sub-put-decimal t c = search needs
+
+-- src/lib.rt:52:9
+put-decimal-put-decimal-requires : (t : ℕ) → put-decimal-lts.Need-put-decimal-requires (
+  put-reads.Asked,
+  put-reads.Learnt,
+  put-decimal-below t,
+  put-decimal.Post,
+) (put-decimal-at t) put-decimal.Post
+put-decimal-put-decimal-requires t c κs = (omega arith, omega arith)
+
+-- src/lib.rt:53:27
+put-decimal-cast-put-2 : (t : ℕ) → put-decimal-lts.Need-cast-put-2 (
+  put-reads.Asked,
+  put-reads.Learnt,
+  put-decimal-below t,
+  put-decimal.Post,
+) (put-decimal-at t) put-decimal.Post
+put-decimal-cast-put-2 t c = search needs
+
+-- src/lib.rt:53:20
+put-decimal-add-put-2 : (t : ℕ) → put-decimal-lts.Need-add-put-2 (
+  put-reads.Asked,
+  put-reads.Learnt,
+  put-decimal-below t,
+  put-decimal.Post,
+) (put-decimal-at t) put-decimal.Post
+put-decimal-add-put-2 t c = search needs
+
+-- src/lib.rt:53:5
+put-decimal-put-requires-2 : (t : ℕ) → put-decimal-lts.Need-put-requires-2 (
+  put-reads.Asked,
+  put-reads.Learnt,
+  put-decimal-below t,
+  put-decimal.Post,
+) (put-decimal-at t) put-decimal.Post
+put-decimal-put-requires-2 t c κs = search needs
+
+-- src/lib.rt:42:1
+put-decimal-same-length-2 : (t : ℕ) → put-decimal-lts.Need-same-length-2 (
+  put-reads.Asked,
+  put-reads.Learnt,
+  put-decimal-below t,
+  put-decimal.Post,
+) (put-decimal-at t) put-decimal.Post
+put-decimal-same-length-2 t c = search needs
+
+-- src/lib.rt:42:1
+put-decimal-returns-3 : (t : ℕ) → put-decimal-lts.Need-returns-3 (
+  put-reads.Asked,
+  put-reads.Learnt,
+  put-decimal-below t,
+  put-decimal.Post,
+) (put-decimal-at t) put-decimal.Post
+put-decimal-returns-3 t c = more-digits _ _ (omega arith) (omega arith) (omega (arith, (c .before .before .before .before .before .before .before .before .before .before .before))) ((c .before .before .before .before .before .before .put-decimal) .ensures) ((c .before .before .put2) .ensures)
+
+pub +put-decimal-spec : {M : Type 1} → statement M
++put-decimal-spec = close μ-put-decimal λ t. put-decimal-lts.spec (
+  put-reads.Asked,
+  put-reads.Learnt,
+  put-decimal-below t,
+  put-decimal.Post,
+)
+    (put-decimal-at t)
+    put-decimal.Post
+    (put-decimal-returns t)
+    (put-decimal-cast-put t)
+    (put-decimal-add-put t)
+    (put-decimal-put-requires t)
+    (put-decimal-same-length t)
+    (put-decimal-returns-2 t)
+    (put-decimal-sub-put-decimal t)
+    (put-decimal-put-decimal-requires t)
+    (put-decimal-cast-put-2 t)
+    (put-decimal-add-put-2 t)
+    (put-decimal-put-requires-2 t)
+    (put-decimal-same-length-2 t)
+    (put-decimal-returns-3 t)
