@@ -1,9 +1,10 @@
-"""The file of cases: what generate.py writes and what model.py, oracle and others read.
+"""The file of cases: what generate.py writes and what model.py, oracle and others read. python3 cases.py FILE prints it in words.
 
 Each case: job, text, number of roots, roots. Lengths and the number are four bytes, little-endian.
 """
 
 import struct
+import sys
 
 
 def packed(data):
@@ -34,3 +35,15 @@ def unpack(data):
     while at < len(data):
         job, text = part(), part()
         yield job, text, [part() for _ in range(number())]
+
+
+def main():
+    with open(sys.argv[1], "rb") as file:
+        for number, (job, text, roots) in enumerate(unpack(file.read())):
+            print("case", number)
+            for word, data in (("job", job), ("text", text), *(("root", root) for root in roots)):
+                print(word, data.hex(" "))
+
+
+if __name__ == "__main__":
+    main()

@@ -1,10 +1,11 @@
 #!/usr/bin/env python3
-"""A second reading of the specification, in the small: python3 model.py CASES
+"""A second reading of the specification, in the small: python3 model.py CASES [--notices ROOM]
 
 Written from the specification's text alone, as a check on the bridge and the generator. It claims nothing about the proved
-program. Prints what oracle prints, and each refusal with its number and figure.
+program. Prints what oracle prints, and each refusal with its number and figure. ROOM is that of the target for notices (65,536 bytes).
 """
 
+import argparse
 import sys
 
 from cases import unpack
@@ -528,7 +529,7 @@ def shown(text, span):
     return "-" if span is None else "'" + text[span[0]:span[0] + span[1]].hex()
 
 
-def run(job, text, roots, out):
+def run(job, text, roots, out, room=TARGET):
     try:
         s = open_job(job, text)
     except Refused as refusal:
@@ -548,7 +549,7 @@ def run(job, text, roots, out):
                 raise Refused(9, 8)
             if calls + len(lowering.calls) > TARGET:
                 raise Refused(10, len(lowering.calls))
-            if notices + len(lowering.notices) > TARGET:
+            if notices + len(lowering.notices) > room:
                 raise Refused(11, len(lowering.notices))
         except Refused as refusal:
             out("root %d refused %d %d" % (number, *refusal.args))
@@ -563,13 +564,15 @@ def run(job, text, roots, out):
 
 
 def main():
+    parser = argparse.ArgumentParser()
+    parser.add_argument("file")
+    parser.add_argument("--notices", type=int, default=TARGET)
+    arguments = parser.parse_args()
     sys.setrecursionlimit(10000)
-    lines = []
-    with open(sys.argv[1], "rb") as file:
+    with open(arguments.file, "rb") as file:
         for number, case in enumerate(unpack(file.read())):
-            lines.append(f"case {number}")
-            run(*case, lines.append)
-    print("\n".join(lines))
+            print(f"case {number}")
+            run(*case, print, arguments.notices)
 
 
 if __name__ == "__main__":

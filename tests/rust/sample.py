@@ -1,20 +1,20 @@
 #!/usr/bin/env python3
-"""Chooses a small list of cases that covers what a large one covers: python3 sample.py CASES ORACLE OTHER > LIST
+"""Chooses a small list of cases that covers what a large one covers: python3 sample.py CASES ORACLE OTHER LIST ANSWERS
 
-CASES as generate.py wrote them, ORACLE and OTHER two programs' answers to them. Cases in which the two differ are an error. What a case
-covers: each command of its tapes under each kind of settings, each pair of neighbouring commands on the call tape, each refusal with the
-command it speaks of, each setting, each form of the record tape. Short cases are taken first. The calls, notices and records are the Rust's; the
-numbers and figures of refusals, which the Rust doesn't have, are OTHER's.
+CASES as generate.py wrote them, ORACLE and OTHER two programs' answers to them; LIST gets the cases that were chosen, ANSWERS their
+answers. Cases in which the two differ are an error. What a case covers: each command of its tapes under each kind of settings, each pair of
+neighbouring commands on the call tape, each refusal with the command it speaks of, each setting, each form of the record tape. Short
+cases are taken first. The settings, calls, notices and records are the Rust's; the numbers and figures of refusals, which the Rust doesn't have, are
+OTHER's.
 """
 
 import heapq
 import re
 import sys
 
-from cases import unpack
+from cases import pack, unpack
 from compare import agrees, cases
 
-LONGEST = 1000
 # operand bytes of the commands of call tapes
 CALLS = {0x80: 1, 0x83: 4, 0x86: 2, 0x87: 2, 0x89: 2, 0x8B: 4, 0x94: 2, 0x96: 1, 0x97: 4, 0x98: 1, 0x99: 1, 0x9B: 1, 0x9C: 2,
          0xA0: 1, 0xA1: 9, 0xA3: 4}
@@ -34,16 +34,22 @@ def commands(tape, operands):
     return found
 
 
-def spoken_of(tape, place, known):
-    """The command that a refusal speaks of: one that there is, another byte, or the tape's end."""
-    return "end" if place >= len(tape) else tape[place] if tape[place] in known else "other"
+def spoken_of(number, figure, text, tape, known):
+    """What a refusal speaks of: too long a text or tape, the kind of a byte of the text, a command that there is, another byte, the tape's end."""
+    if number == "1":
+        return len(text) > figure
+    if number in ("2", "5"):
+        return text[figure] >> 4
+    if number in ("9", "10", "11"):
+        return None
+    return "end" if figure >= len(tape) else tape[figure] if tape[figure] in known else "other"
 
 
-def covered(job, roots, answer):
+def covered(job, text, roots, answer):
     found = set()
     words = answer[1].split(" ")
     if words[1] == "refused":
-        found.add(("opening", words[2], spoken_of(job, int(words[3]), OPENINGS)))
+        found.add(("opening", words[2], spoken_of(words[2], int(words[3]), text, job, OPENINGS)))
         return found
     shown = [word[:1] if word.startswith("'") else word for word in words[1:]]
     mode = (shown[0], shown[shown.index("development") + 1])
@@ -54,7 +60,7 @@ def covered(job, roots, answer):
         if kind == "root":
             root = roots[int(rest[0])]
             if rest[1] == "refused":
-                found.add(("root", rest[2], spoken_of(root, int(rest[3]), ROOTS)))
+                found.add(("root", rest[2], spoken_of(rest[2], int(rest[3]), text, root, ROOTS)))
         elif kind == "calls":
             found.update(("root command", mode, command) for command in commands(root, ROOTS))
             out = commands(bytes.fromhex("".join(rest)), CALLS)
@@ -74,9 +80,9 @@ def main():
     for case, ours, theirs in zip(inputs, cases(sys.argv[2]), cases(sys.argv[3]), strict=True):
         if len(ours) != len(theirs) or not all(map(agrees, ours, theirs)):
             sys.exit(f"{ours[0]}: the two differ")
-        size = sum(map(len, case[:2])) + sum(map(len, case[2]))
-        if size <= LONGEST:
-            candidates.append((size, case, theirs, covered(case[0], case[2], theirs)))
+        answer = [other if " refused" in mine else mine for mine, other in zip(ours, theirs)]
+        size = sum(map(len, case[:2])) + sum(map(len, case[2])) + sum(map(len, answer)) // 3
+        candidates.append((size, case, answer, covered(*case, answer)))
     candidates.sort(key=lambda candidate: candidate[0])
     missing = set().union(*(candidate[3] for candidate in candidates))
     total, chosen = len(missing), []
@@ -92,20 +98,12 @@ def main():
         else:
             chosen.append(candidates[number])
             missing -= candidates[number][3]
-    line = lambda word, data: " ".join([word, *(f"{byte:02x}" for byte in data)])
-    print(f"# {len(chosen)} cases, chosen by sample.py to cover {total} things that a large list covers.")
-    for _, (job, text, roots), answer, _ in chosen:
-        print(line("job", job))
-        print(line("text", text))
-        print("opening accepted" if " refused " not in answer[1] else answer[1])
-        for each in answer[2:]:
-            if each.startswith("root"):
-                number, rest = each.split(" ", 2)[1:]
-                print(line("root", roots[int(number)]))
-                print(rest)
-            else:
-                print(each)
-        print()
+    with open(sys.argv[4], "wb") as file:
+        file.writelines(pack(*case) for _, case, _, _ in chosen)
+    with open(sys.argv[5], "w") as file:
+        for number, (_, _, answer, _) in enumerate(chosen):
+            file.writelines(line + "\n" for line in [f"case {number}", *answer[1:]])
+    print(f"{len(chosen)} cases, which cover {total} things that the large list covers")
 
 
 if __name__ == "__main__":

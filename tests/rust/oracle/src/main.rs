@@ -1,4 +1,4 @@
-//! Runs the original lowering on a file of cases: `oracle CASES [--plain-fragments]`. README.md has the formats.
+//! Runs the original lowering on a file of cases: `oracle CASES [--plain-fragments] [--notices ROOM]`. README.md has the formats.
 #![allow(dead_code, unfulfilled_lint_expectations)]
 
 mod reader;

@@ -22,7 +22,7 @@ use crate::{
 
 const PATH: &str = "sheet.jsx";
 
-/// Room in the targets for calls and for notices.
+/// Room in the target for calls, and in that for notices if no other is given.
 const TARGET: usize = 65_536;
 
 /// How often the switch left something out.
@@ -36,14 +36,17 @@ struct Dropped {
 pub fn main() -> ExitCode {
     let mut file = None;
     let mut plain_fragments = false;
-    for argument in env::args().skip(1) {
+    let mut notice_room = Some(TARGET);
+    let mut arguments = env::args().skip(1);
+    while let Some(argument) = arguments.next() {
         match argument.as_str() {
             "--plain-fragments" => plain_fragments = true,
+            "--notices" => notice_room = arguments.next().and_then(|room| room.parse().ok()),
             _ => file = Some(argument),
         }
     }
-    let Some(file) = file else {
-        eprintln!("oracle CASES [--plain-fragments]");
+    let (Some(file), Some(notice_room)) = (file, notice_room) else {
+        eprintln!("oracle CASES [--plain-fragments] [--notices ROOM]");
         return ExitCode::FAILURE;
     };
     let cases = match fs::read(&file) {
@@ -65,7 +68,7 @@ pub fn main() -> ExitCode {
         // A root that doesn't fit leaves no trace: begin again without it.
         let mut skipped = vec![false; case.roots.len()];
         let answer = loop {
-            match case.run(plain_fragments, &skipped, &mut dropped) {
+            match case.run(plain_fragments, notice_room, &skipped, &mut dropped) {
                 Ok(answer) => break answer,
                 Err(root) => skipped[root] = true,
             }
@@ -145,6 +148,7 @@ impl<'f> Case<'f> {
     fn run(
         &self,
         plain_fragments: bool,
+        notice_room: usize,
         skipped: &[bool],
         dropped: &mut Dropped,
     ) -> Result<String, usize> {
@@ -197,7 +201,7 @@ impl<'f> Case<'f> {
             };
             call_fill += calls.tape.len();
             notice_fill += notices.len();
-            if call_fill > TARGET || notice_fill > TARGET {
+            if call_fill > TARGET || notice_fill > notice_room {
                 return Err(index);
             }
             lost.sources += calls.dropped_sources;
