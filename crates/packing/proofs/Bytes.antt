@@ -51,8 +51,15 @@ unfolding packed
 packed-length s e =
     let a = settingsBytes (s .settings) in
     let b = recordsBytes (s .records) in
-    rw (length-append (a ++ b ++ u64Bytes (s .count) ++ u64Bytes (s .calls)) (u64Bytes (s .notices)), length-append (a ++ b ++ u64Bytes (s .count)) (u64Bytes (s .calls)),
-      length-append (a ++ b) (u64Bytes (s .count)), length-append a b, settings-length (s .settings), records-length (s .records), e)
+    rw (
+      length-append (a ++ b ++ u64Bytes (s .count) ++ u64Bytes (s .calls)) (u64Bytes (s .notices)),
+      length-append (a ++ b ++ u64Bytes (s .count)) (u64Bytes (s .calls)),
+      length-append (a ++ b) (u64Bytes (s .count)),
+      length-append a b,
+      settings-length (s .settings),
+      records-length (s .records),
+      e,
+    )
 
 -- a target with room for a state holds it after
 pub packed-laid : (s : State) (o : List ℕ) {o′ : List ℕ} {r : ℕ} → length (s .records) ≡ 8 → 102 ≤ length o → Wrote o o′ 0 r (packed s) → o′ ≡ packedTarget s o

@@ -5,13 +5,13 @@
 --     28, 37    the forms of both pragmas, nine bytes each: the root (0 to 3) and how many parts follow it
 --     46        eight records of four bytes: what it is (0 named, 1 required, 2 the file name), source, name, binding
 --     78        three numbers of eight bytes: how many records are in use, and the fills of the call and notice targets
-use Prim.Native.Nat.{ℕ, zero, suc, _+_, _*_, _/_, _%_}
+use Prim.Native.Nat.{ℕ, _+_, _*_, _/_, _%_}
 use mathlib.Core.Bool.{Bool, true, false, cond, _&&_}
 use mathlib.Core.List.{List, [], _∷_, _++_}
 use lib.ListN.{length, getD, replicate}
 use lib.Dec.{eqb, ltb}
 use Rattle.text.specs.declared.spans.Span.{Span}
-use Rattle.tape.specs.Numbers.{u16At, u32At, spanAt, u16Bytes, u32Bytes, spanBytes}
+use Rattle.tape.specs.Numbers.{u32At, spanAt, u32Bytes, spanBytes}
 use Rattle.definitions.specs.declared.options.Optional.{Optional}
 use Rattle.definitions.specs.declared.options.Optional.the-variants.{Absent, Present}
 use Rattle.definitions.specs.declared.options.Flags.{Flags}

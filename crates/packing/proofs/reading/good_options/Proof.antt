@@ -1,36 +1,23 @@
-use Prim.Native.Nat.{ℕ, suc, _≤_, _<_, _+_, _-_}
-use native.Mathlib.Omega.{arith}
-use mathlib.Core.Path.{_≡_, refl, sym, ap, subst, _∙_}
-use lib.ListN.{length, getD, take, drop}
 use borrow.Author.Needs.{needs}
 use Rattle.packing.specs.Packed.{goodOptions}
 use Rattle.packing.proofs.reading.good_options.Statement.{statement}
 use Rattle.packing.proofs.reading.good_options.Tie as tie
-use Rattle.packing.proofs.reading.good_options.Reads as reads
-use Rattle.packing.proofs.reading.good_options.Lts as lts
-use Rattle.packing.proofs.reading.good_optional.Reads as good-optional-reads
 
--- src/reading.rt:228:5
 good-optional-requires : tie.Need-good-optional-requires
 good-optional-requires c κs = search needs
 
--- src/reading.rt:229:11
 good-optional-requires-2 : tie.Need-good-optional-requires-2
 good-optional-requires-2 c κs = search needs
 
--- src/reading.rt:230:11
 good-optional-requires-3 : tie.Need-good-optional-requires-3
 good-optional-requires-3 c κs = search needs
 
--- src/reading.rt:231:11
 good-optional-requires-4 : tie.Need-good-optional-requires-4
 good-optional-requires-4 c κs = search needs
 
--- src/reading.rt:232:11
 good-optional-requires-5 : tie.Need-good-optional-requires-5
 good-optional-requires-5 c κs = search needs
 
--- src/reading.rt:224:1
 returns : tie.Need-returns
 unfolding goodOptions
 returns c = rw ((c .before .before .before .before .good-optional) .ensures, (c .before .before .before .good-optional2) .ensures, (c .before .before .good-optional3) .ensures, (c .before .good-optional4) .ensures, (c .good-optional5) .ensures)

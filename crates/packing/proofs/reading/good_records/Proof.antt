@@ -1,48 +1,32 @@
-use Prim.Native.Nat.{ℕ, suc, _≤_, _<_, _+_, _-_}
-use native.Mathlib.Omega.{arith}
-use mathlib.Core.Path.{_≡_, refl, sym, ap, subst, _∙_}
-use lib.ListN.{length, getD, take, drop}
 use borrow.Author.Needs.{needs}
 use Rattle.packing.specs.Packed.{goodRecords}
 use Rattle.packing.proofs.reading.good_records.Statement.{statement}
 use Rattle.packing.proofs.reading.good_records.Tie as tie
-use Rattle.packing.proofs.reading.good_records.Reads as reads
-use Rattle.packing.proofs.reading.good_records.Lts as lts
-use Rattle.packing.proofs.reading.good_record.Reads as good-record-reads
 
--- src/reading.rt:246:5
 good-record-requires : tie.Need-good-record-requires
 good-record-requires c κs = search needs
 
--- src/reading.rt:247:11
 good-record-requires-2 : tie.Need-good-record-requires-2
 good-record-requires-2 c κs = search needs
 
--- src/reading.rt:248:11
 good-record-requires-3 : tie.Need-good-record-requires-3
 good-record-requires-3 c κs = search needs
 
--- src/reading.rt:249:11
 good-record-requires-4 : tie.Need-good-record-requires-4
 good-record-requires-4 c κs = search needs
 
--- src/reading.rt:250:11
 good-record-requires-5 : tie.Need-good-record-requires-5
 good-record-requires-5 c κs = search needs
 
--- src/reading.rt:251:11
 good-record-requires-6 : tie.Need-good-record-requires-6
 good-record-requires-6 c κs = search needs
 
--- src/reading.rt:252:11
 good-record-requires-7 : tie.Need-good-record-requires-7
 good-record-requires-7 c κs = search needs
 
--- src/reading.rt:253:11
 good-record-requires-8 : tie.Need-good-record-requires-8
 good-record-requires-8 c κs = search needs
 
--- src/reading.rt:242:1
 returns : tie.Need-returns
 unfolding goodRecords
 returns c = rw ((c .before .before .before .before .before .before .before .good-record) .ensures, (c .before .before .before .before .before .before .good-record2) .ensures, (c .before .before .before .before .before .good-record3) .ensures, (c .before .before .before .before .good-record4) .ensures, (c .before .before .before .good-record5) .ensures, (c .before .before .good-record6) .ensures, (c .before .good-record7) .ensures, (c .good-record8) .ensures)

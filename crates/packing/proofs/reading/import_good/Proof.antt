@@ -1,26 +1,16 @@
-use borrow.Author.Needs.{needs}
-use Prim.Native.Nat.{ℕ, suc, _≤_, _<_, _+_, _-_}
-use native.Mathlib.Omega.{arith}
-use mathlib.Core.Path.{_≡_, refl, sym, ap, subst, _∙_}
-use lib.ListN.{length, getD, take, drop}
 use borrow.Author.Tests.{eq-eqb, ne-eqb}
 use Rattle.packing.specs.Packed.{importGood}
 use Rattle.packing.proofs.reading.import_good.Statement.{statement}
 use Rattle.packing.proofs.reading.import_good.Tie as tie
-use Rattle.packing.proofs.reading.import_good.Reads as reads
-use Rattle.packing.proofs.reading.import_good.Lts as lts
 
--- src/reading.rt:137:9
 returns : tie.Need-returns
 unfolding importGood
 returns c = rw (eq-eqb _ _ ((c .if1) .taken))
 
--- src/reading.rt:140:9
 returns-2 : tie.Need-returns-2
 unfolding importGood
 returns-2 c = rw (ne-eqb _ _ ((c .before .if1) .left), eq-eqb _ _ ((c .if2) .taken))
 
--- src/reading.rt:133:1
 returns-3 : tie.Need-returns-3
 unfolding importGood
 returns-3 c = rw (ne-eqb _ _ ((c .before .if1) .left), ne-eqb _ _ ((c .if2) .left))

@@ -1,26 +1,16 @@
-use borrow.Author.Needs.{needs}
-use Prim.Native.Nat.{ℕ, suc, _≤_, _<_, _+_, _-_}
-use native.Mathlib.Omega.{arith}
-use mathlib.Core.Path.{_≡_, refl, sym, ap, subst, _∙_}
-use lib.ListN.{length, getD, take, drop}
 use borrow.Author.Tests.{eq-eqb, ne-eqb}
 use Rattle.packing.specs.Packed.{modeOf}
 use Rattle.packing.proofs.reading.mode_of.Statement.{statement}
 use Rattle.packing.proofs.reading.mode_of.Tie as tie
-use Rattle.packing.proofs.reading.mode_of.Reads as reads
-use Rattle.packing.proofs.reading.mode_of.Lts as lts
 
--- src/reading.rt:87:9
 returns : tie.Need-returns
 unfolding modeOf
 returns c = rw (eq-eqb _ _ ((c .if1) .taken))
 
--- src/reading.rt:90:9
 returns-2 : tie.Need-returns-2
 unfolding modeOf
 returns-2 c = rw (ne-eqb _ _ ((c .before .if1) .left), eq-eqb _ _ ((c .if2) .taken))
 
--- src/reading.rt:83:1
 returns-3 : tie.Need-returns-3
 unfolding modeOf
 returns-3 c = rw (ne-eqb _ _ ((c .before .if1) .left), ne-eqb _ _ ((c .if2) .left))

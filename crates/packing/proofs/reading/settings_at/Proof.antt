@@ -1,42 +1,26 @@
-use Prim.Native.Nat.{ℕ, suc, _≤_, _<_, _+_, _-_}
-use native.Mathlib.Omega.{arith}
-use mathlib.Core.Path.{_≡_, refl, sym, ap, subst, _∙_}
-use lib.ListN.{length, getD, take, drop}
 use borrow.Author.Needs.{needs}
 use Rattle.packing.specs.Packed.{settingsAt}
 use Rattle.packing.proofs.reading.settings_at.Statement.{statement}
 use Rattle.packing.proofs.reading.settings_at.Tie as tie
-use Rattle.packing.proofs.reading.settings_at.Reads as reads
-use Rattle.packing.proofs.reading.settings_at.Lts as lts
-use Rattle.packing.proofs.reading.form_at.Reads as form-at-reads
-use Rattle.packing.proofs.reading.mode_of.Reads as mode-of-reads
-use Rattle.packing.proofs.reading.options_at.Reads as options-at-reads
 
--- src/reading.rt:187:9
 options-at-requires : tie.Need-options-at-requires
 options-at-requires c κs = search needs
 
--- src/reading.rt:188:24
 shared-slice-read-mode-of : tie.Need-shared-slice-read-mode-of
 shared-slice-read-mode-of c = search needs
 
--- src/reading.rt:188:9
 mode-of-requires : tie.Need-mode-of-requires
 mode-of-requires c κs = search needs
 
--- src/reading.rt:189:9
 form-at-requires : tie.Need-form-at-requires
 form-at-requires c κs = search needs
 
--- src/reading.rt:190:9
 form-at-requires-2 : tie.Need-form-at-requires-2
 form-at-requires-2 c κs = search needs
 
--- src/reading.rt:193:15
 shared-slice-read-t7 : tie.Need-shared-slice-read-t7
 shared-slice-read-t7 c = search needs
 
--- src/reading.rt:183:1
 returns : tie.Need-returns
 unfolding settingsAt
 returns c = rw ((c .before .before .before .before .before .options-at) .ensures, (c .before .before .before .mode-of) .ensures, (c .before .before .form-at) .ensures, (c .before .form-at2) .ensures)

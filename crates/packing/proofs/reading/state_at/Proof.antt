@@ -1,66 +1,45 @@
-use Prim.Native.Nat.{ℕ, suc, _≤_, _<_, _+_, _-_}
 use native.Mathlib.Omega.{arith}
-use mathlib.Core.Path.{_≡_, refl, sym, ap, subst, _∙_}
-use lib.ListN.{length, getD, take, drop}
 use borrow.Author.Needs.{needs}
 use Rattle.packing.specs.Packed.{stateAt}
 use Rattle.packing.proofs.reading.state_at.Statement.{statement}
 use Rattle.packing.proofs.reading.state_at.Tie as tie
-use Rattle.packing.proofs.reading.state_at.Reads as reads
-use Rattle.packing.proofs.reading.state_at.Lts as lts
-use Rattle.packing.proofs.reading.read_u64.Reads as read-u64-reads
-use Rattle.packing.proofs.reading.record_at.Reads as record-at-reads
-use Rattle.packing.proofs.reading.settings_at.Reads as settings-at-reads
 
--- src/reading.rt:204:9
 settings-at-requires : tie.Need-settings-at-requires
 settings-at-requires c κs = search needs
 
--- src/reading.rt:206:9
 record-at-requires : tie.Need-record-at-requires
 record-at-requires c κs = search needs
 
--- src/reading.rt:207:9
 record-at-requires-2 : tie.Need-record-at-requires-2
 record-at-requires-2 c κs = search needs
 
--- src/reading.rt:208:9
 record-at-requires-3 : tie.Need-record-at-requires-3
 record-at-requires-3 c κs = search needs
 
--- src/reading.rt:209:9
 record-at-requires-4 : tie.Need-record-at-requires-4
 record-at-requires-4 c κs = search needs
 
--- src/reading.rt:210:9
 record-at-requires-5 : tie.Need-record-at-requires-5
 record-at-requires-5 c κs = search needs
 
--- src/reading.rt:211:9
 record-at-requires-6 : tie.Need-record-at-requires-6
 record-at-requires-6 c κs = search needs
 
--- src/reading.rt:212:9
 record-at-requires-7 : tie.Need-record-at-requires-7
 record-at-requires-7 c κs = search needs
 
--- src/reading.rt:213:9
 record-at-requires-8 : tie.Need-record-at-requires-8
 record-at-requires-8 c κs = search needs
 
--- src/reading.rt:218:16
 read-u64-requires : tie.Need-read-u64-requires
 read-u64-requires c κs = search needs
 
--- src/reading.rt:219:16
 read-u64-requires-2 : tie.Need-read-u64-requires-2
 read-u64-requires-2 c κs = search needs
 
--- src/reading.rt:220:18
 read-u64-requires-3 : tie.Need-read-u64-requires-3
 read-u64-requires-3 c κs = omega (arith, (c .before .before .before .before .before .before .before .before .before .before .before .before .pre))
 
--- src/reading.rt:200:1
 returns : tie.Need-returns
 unfolding stateAt
 returns c = rw ((c .before .before .before .before .before .before .before .before .before .before .before .settings-at) .ensures, (c .before .before .before .before .before .before .before .before .before .before .record-at) .ensures, (c .before .before .before .before .before .before .before .before .before .record-at2) .ensures, (c .before .before .before .before .before .before .before .before .record-at3) .ensures, (c .before .before .before .before .before .before .before .record-at4) .ensures, (c .before .before .before .before .before .before .record-at5) .ensures, (c .before .before .before .before .before .record-at6) .ensures, (c .before .before .before .before .record-at7) .ensures, (c .before .before .before .record-at8) .ensures, (c .before .before .read-u64) .ensures, (c .before .read-u642) .ensures, (c .read-u643) .ensures)

@@ -1,46 +1,30 @@
-use Prim.Native.Nat.{ℕ, suc, _≤_, _<_, _+_, _-_}
-use native.Mathlib.Omega.{arith}
-use mathlib.Core.Path.{_≡_, refl, sym, ap, subst, _∙_}
-use lib.ListN.{length, getD, take, drop}
 use borrow.Author.Needs.{needs}
 use borrow.Author.Tests.{eq-eqb, ne-eqb}
 use Rattle.packing.proofs.Bytes.{told}
 use Rattle.packing.specs.Packed.{unpacked, unpackedAnswer}
 use Rattle.packing.proofs.reading.unpack.Statement.{statement}
 use Rattle.packing.proofs.reading.unpack.Tie as tie
-use Rattle.packing.proofs.reading.unpack.Reads as reads
-use Rattle.packing.proofs.reading.unpack.Lts as lts
-use Rattle.packing.proofs.reading.good_state.Reads as good-state-reads
-use Rattle.packing.proofs.reading.no_state.Reads as no-state-reads
-use Rattle.packing.proofs.reading.state_at.Reads as state-at-reads
 
--- src/reading.rt:301:13
 no-state-requires : tie.Need-no-state-requires
 no-state-requires c κs = search needs
 
--- src/reading.rt:302:9
 returns : tie.Need-returns
 unfolding unpacked unpackedAnswer
 returns c = rw ((c .no-state) .ensures, ne-eqb _ _ ((c .before .if1) .taken))
 
--- src/reading.rt:304:8
 good-state-requires : tie.Need-good-state-requires
 good-state-requires c κs = search needs
 
--- src/reading.rt:305:13
 state-at-requires : tie.Need-state-at-requires
 state-at-requires c κs = search needs
 
--- src/reading.rt:306:9
 returns-2 : tie.Need-returns-2
 unfolding unpacked unpackedAnswer
 returns-2 c = rw ((c .state-at) .ensures, eq-eqb _ _ ((c .before .before .before .if1) .left), told ((c .before .before .good-state) .ensures) ((c .before .if2) .taken))
 
--- src/reading.rt:308:9
 no-state-requires-2 : tie.Need-no-state-requires-2
 no-state-requires-2 c κs = search needs
 
--- src/reading.rt:297:1
 returns-3 : tie.Need-returns-3
 unfolding unpacked unpackedAnswer
 returns-3 c = rw ((c .no-state2) .ensures, eq-eqb _ _ ((c .before .before .before .if1) .left), told ((c .before .before .good-state) .ensures) ((c .before .if2) .left))

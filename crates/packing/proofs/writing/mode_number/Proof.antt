@@ -1,37 +1,25 @@
-use Prim.Native.Nat.{ℕ, suc, _≤_, _<_, _+_, _-_}
-use native.Mathlib.Omega.{arith}
-use mathlib.Core.Path.{_≡_, refl, sym, ap, subst, _∙_}
-use lib.ListN.{length, getD, take, drop}
 use borrow.Author.Needs.{needs}
 use Rattle.packing.specs.Packed.{modeNumber}
 use Rattle.packing.proofs.writing.mode_number.Statement.{statement}
 use Rattle.packing.proofs.writing.mode_number.Tie as tie
-use Rattle.packing.proofs.writing.mode_number.Reads as reads
-use Rattle.packing.proofs.writing.mode_number.Lts as lts
 
--- src/writing.rt:79:25
 enum-told : tie.Need-enum-told
 enum-told c = search needs
 
--- src/writing.rt:80:25
 enum-told-2 : tie.Need-enum-told-2
 enum-told-2 c = search needs
 
--- src/writing.rt:81:26
 enum-told-3 : tie.Need-enum-told-3
 enum-told-3 c = search needs
 
--- src/writing.rt:75:1
 returns : tie.Need-returns
 unfolding modeNumber
 returns c = rw ((c .enum-told) .given .1)
 
--- src/writing.rt:75:1
 returns-2 : tie.Need-returns-2
 unfolding modeNumber
 returns-2 c = rw ((c .enum-told2) .given .1)
 
--- src/writing.rt:75:1
 returns-3 : tie.Need-returns-3
 unfolding modeNumber
 returns-3 c = rw ((c .enum-told3) .given .1)

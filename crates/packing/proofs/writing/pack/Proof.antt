@@ -1,7 +1,5 @@
-use Prim.Native.Nat.{ℕ, suc, _≤_, _<_, _+_, _-_}
-use native.Mathlib.Omega.{arith}
-use mathlib.Core.Path.{_≡_, refl, sym, ap, subst, _∙_}
-use lib.ListN.{length, getD, take, drop}
+use mathlib.Core.Path.{_≡_, sym, _∙_}
+use lib.ListN.{length}
 use borrow.Author.Needs.{needs}
 use borrow.Author.Tests.{lt-ltb, le-ltb}
 use denote.Ref.{now}
@@ -10,24 +8,17 @@ use Rattle.packing.specs.Packed.{packedAnswer, packedTarget}
 use Rattle.packing.proofs.Bytes.{packed-laid}
 use Rattle.packing.proofs.writing.pack.Statement.{statement}
 use Rattle.packing.proofs.writing.pack.Tie as tie
-use Rattle.packing.proofs.writing.pack.Reads as reads
-use Rattle.packing.proofs.writing.pack.Lts as lts
-use Rattle.packing.proofs.writing.put_state.Reads as put-state-reads
 
--- src/writing.rt:187:9
 returns : tie.Need-returns
 unfolding packedAnswer packedTarget
 returns c = (rw (lt-ltb _ _ ((c .if1) .taken)), rw (lt-ltb _ _ ((c .if1) .taken)))
 
--- src/writing.rt:189:5
 put-state-requires : tie.Need-put-state-requires
 put-state-requires c κs = search needs
 
--- src/writing.rt:182:1
 same-length : tie.Need-same-length
 same-length c = search needs
 
--- src/writing.rt:182:1
 returns-2 : tie.Need-returns-2
 unfolding packedAnswer
 returns-2 c =

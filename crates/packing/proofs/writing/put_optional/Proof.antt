@@ -1,56 +1,38 @@
-use Prim.Native.Nat.{ℕ, suc, _≤_, _<_, _+_, _-_}
 use native.Mathlib.Omega.{arith}
-use mathlib.Core.Path.{_≡_, refl, sym, ap, subst, _∙_}
-use lib.ListN.{length, getD, take, drop}
 use borrow.Author.Needs.{needs}
 use Rattle.tape.proofs.Targets.{wrote-then}
 use Rattle.packing.specs.Packed.{optionalBytes, presence, spanOf}
 use Rattle.packing.proofs.writing.put_optional.Statement.{statement}
 use Rattle.packing.proofs.writing.put_optional.Tie as tie
-use Rattle.packing.proofs.writing.put_optional.Reads as reads
-use Rattle.packing.proofs.writing.put_optional.Lts as lts
-use Rattle.tape.proofs.target.put.Reads as put-reads
-use Rattle.tape.proofs.target.put_span.Reads as put-span-reads
-use Rattle.tape.proofs.target.put_u32.Reads as put-u32-reads
 
--- src/writing.rt:65:28
 enum-told : tie.Need-enum-told
 enum-told c = search needs
 
--- src/writing.rt:65:17
 put-requires : tie.Need-put-requires
 put-requires c κs = search needs
 
--- src/writing.rt:66:13
 put-u32-requires : tie.Need-put-u32-requires
 put-u32-requires c κs = search needs
 
--- src/writing.rt:68:27
 enum-known-o : tie.Need-enum-known-o
 enum-known-o c = search needs
 
--- src/writing.rt:69:17
 put-requires-2 : tie.Need-put-requires-2
 put-requires-2 c κs = search needs
 
--- src/writing.rt:70:13
 put-span-requires : tie.Need-put-span-requires
 put-span-requires c κs = search needs
 
--- src/writing.rt:60:1
 same-length : tie.Need-same-length
 same-length c = search needs
 
--- src/writing.rt:60:1
 returns : tie.Need-returns
 unfolding optionalBytes presence spanOf
 returns c = rw ((c .before .before .before .before .before .before .before .before .enum-told) .given .1) (wrote-then (omega arith) ((c .before .before .before .before .before .before .put) .ensures) ((c .before .before .put-u32) .ensures))
 
--- src/writing.rt:60:1
 same-length-2 : tie.Need-same-length-2
 same-length-2 c = search needs
 
--- src/writing.rt:60:1
 returns-2 : tie.Need-returns-2
 unfolding optionalBytes presence spanOf
 returns-2 c = rw ((c .before .before .before .before .before .before .before .before .before .o) .given .1) (wrote-then (omega arith) ((c .before .before .before .before .before .before .put2) .ensures) ((c .before .before .put-span) .ensures))

@@ -1,75 +1,54 @@
-use Prim.Native.Nat.{ℕ, suc, _≤_, _<_, _+_, _-_}
 use native.Mathlib.Omega.{arith}
-use mathlib.Core.Path.{_≡_, refl, sym, ap, subst, _∙_}
-use lib.ListN.{length, getD, take, drop}
 use borrow.Author.Needs.{needs}
 use Rattle.tape.proofs.Targets.{wrote-then}
 use Rattle.packing.specs.Packed.{recordBytes, importNumber, sourceOf, nameOf}
 use Rattle.packing.proofs.writing.put_record.Statement.{statement}
 use Rattle.packing.proofs.writing.put_record.Tie as tie
-use Rattle.packing.proofs.writing.put_record.Reads as reads
-use Rattle.packing.proofs.writing.put_record.Lts as lts
-use Rattle.tape.proofs.target.put_two.Reads as put-two-reads
 
--- src/writing.rt:110:23
 enum-known-import : tie.Need-enum-known-import
 enum-known-import c = search needs
 
--- src/writing.rt:111:17
 put-two-requires : tie.Need-put-two-requires
 put-two-requires c κs = search needs
 
--- src/writing.rt:112:13
 put-two-requires-2 : tie.Need-put-two-requires-2
 put-two-requires-2 c κs = search needs
 
--- src/writing.rt:114:25
 enum-known-import-2 : tie.Need-enum-known-import-2
 enum-known-import-2 c = search needs
 
--- src/writing.rt:115:17
 put-two-requires-3 : tie.Need-put-two-requires-3
 put-two-requires-3 c κs = search needs
 
--- src/writing.rt:116:13
 put-two-requires-4 : tie.Need-put-two-requires-4
 put-two-requires-4 c κs = search needs
 
--- src/writing.rt:119:32
 enum-told : tie.Need-enum-told
 enum-told c = search needs
 
--- src/writing.rt:119:17
 put-two-requires-5 : tie.Need-put-two-requires-5
 put-two-requires-5 c κs = search needs
 
--- src/writing.rt:120:13
 put-two-requires-6 : tie.Need-put-two-requires-6
 put-two-requires-6 c κs = search needs
 
--- src/writing.rt:105:1
 same-length : tie.Need-same-length
 same-length c = search needs
 
--- src/writing.rt:105:1
 returns : tie.Need-returns
 unfolding recordBytes importNumber sourceOf nameOf
 returns c = rw ((c .before .before .before .before .before .before .before .before .before .import) .given .1) (wrote-then (omega arith) ((c .before .before .before .before .before .before .put-two) .ensures) ((c .before .before .put-two2) .ensures))
 
--- src/writing.rt:105:1
 same-length-2 : tie.Need-same-length-2
 same-length-2 c = search needs
 
--- src/writing.rt:105:1
 returns-2 : tie.Need-returns-2
 unfolding recordBytes importNumber sourceOf nameOf
 returns-2 c = rw ((c .before .before .before .before .before .before .before .before .before .import2) .given .1) (wrote-then (omega arith) ((c .before .before .before .before .before .before .put-two3) .ensures) ((c .before .before .put-two4) .ensures))
 
--- src/writing.rt:105:1
 same-length-3 : tie.Need-same-length-3
 same-length-3 c = search needs
 
--- src/writing.rt:105:1
 returns-3 : tie.Need-returns-3
 unfolding recordBytes importNumber sourceOf nameOf
 returns-3 c = rw ((c .before .before .before .before .before .before .before .before .enum-told) .given .1) (wrote-then (omega arith) ((c .before .before .before .before .before .before .put-two5) .ensures) ((c .before .before .put-two6) .ensures))

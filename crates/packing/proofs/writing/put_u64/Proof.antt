@@ -1,36 +1,24 @@
-use Prim.Native.Nat.{ℕ, suc, _≤_, _<_, _+_, _-_}
 use native.Mathlib.Omega.{arith}
-use mathlib.Core.Path.{_≡_, refl, sym, ap, subst, _∙_}
-use lib.ListN.{length, getD, take, drop}
 use borrow.Author.Needs.{needs}
 use Rattle.tape.proofs.Targets.{wrote-then}
 use Rattle.packing.proofs.writing.put_u64.Statement.{statement}
 use Rattle.packing.proofs.writing.put_u64.Tie as tie
-use Rattle.packing.proofs.writing.put_u64.Reads as reads
-use Rattle.packing.proofs.writing.put_u64.Lts as lts
-use Rattle.tape.proofs.target.put_u32.Reads as put-u32-reads
 
--- src/writing.rt:33:33
 cast-put-u32 : tie.Need-cast-put-u32
 cast-put-u32 c = search needs
 
--- src/writing.rt:33:9
 put-u32-requires : tie.Need-put-u32-requires
 put-u32-requires c κs = search needs
 
--- src/writing.rt:34:24
 cast-put-u32-2 : tie.Need-cast-put-u32-2
 cast-put-u32-2 c = search needs
 
--- src/writing.rt:34:5
 put-u32-requires-2 : tie.Need-put-u32-requires-2
 put-u32-requires-2 c κs = search needs
 
--- src/writing.rt:30:1
 same-length : tie.Need-same-length
 same-length c = search needs
 
--- src/writing.rt:30:1
 returns : tie.Need-returns
 returns c = (wrote-then (omega arith) ((c .before .before .before .before .before .before .put-u32) .ensures) ((c .before .before .put-u322) .ensures))
 

@@ -1,46 +1,32 @@
-use Prim.Native.Nat.{ℕ, suc, _≤_, _<_, _+_, _-_}
-use native.Mathlib.Omega.{arith}
-use mathlib.Core.Path.{_≡_, refl, sym, ap, subst, _∙_}
-use lib.ListN.{length, getD, take, drop}
 use borrow.Author.Needs.{needs}
 use Rattle.definitions.specs.States.{rootNumber}
 use Rattle.packing.proofs.writing.root_number.Statement.{statement}
 use Rattle.packing.proofs.writing.root_number.Tie as tie
-use Rattle.packing.proofs.writing.root_number.Reads as reads
-use Rattle.packing.proofs.writing.root_number.Lts as lts
 
--- src/writing.rt:89:32
 enum-told : tie.Need-enum-told
 enum-told c = search needs
 
--- src/writing.rt:90:29
 enum-told-2 : tie.Need-enum-told-2
 enum-told-2 c = search needs
 
--- src/writing.rt:91:35
 enum-told-3 : tie.Need-enum-told-3
 enum-told-3 c = search needs
 
--- src/writing.rt:92:35
 enum-told-4 : tie.Need-enum-told-4
 enum-told-4 c = search needs
 
--- src/writing.rt:85:1
 returns : tie.Need-returns
 unfolding rootNumber
 returns c = rw ((c .enum-told) .given .1)
 
--- src/writing.rt:85:1
 returns-2 : tie.Need-returns-2
 unfolding rootNumber
 returns-2 c = rw ((c .enum-told2) .given .1)
 
--- src/writing.rt:85:1
 returns-3 : tie.Need-returns-3
 unfolding rootNumber
 returns-3 c = rw ((c .enum-told3) .given .1)
 
--- src/writing.rt:85:1
 returns-4 : tie.Need-returns-4
 unfolding rootNumber
 returns-4 c = rw ((c .enum-told4) .given .1)
