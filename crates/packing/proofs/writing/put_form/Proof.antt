@@ -1,0 +1,26 @@
+use native.Mathlib.Omega.{arith}
+use borrow.Author.Needs.{needs}
+use Rattle.tape.proofs.Targets.{wrote-then}
+use Rattle.packing.specs.Packed.{formBytes}
+use Rattle.packing.proofs.writing.put_form.Statement.{statement}
+use Rattle.packing.proofs.writing.put_form.Tie as tie
+
+root-number-requires : tie.Need-root-number-requires
+root-number-requires c κs = search needs
+
+put-requires : tie.Need-put-requires
+put-requires c κs = search needs
+
+put-u64-requires : tie.Need-put-u64-requires
+put-u64-requires c κs = search needs
+
+same-length : tie.Need-same-length
+same-length c = search needs
+
+returns : tie.Need-returns
+unfolding formBytes
+returns c = rw (← (c .before .before .before .before .before .before .before .root-number) .ensures) (wrote-then (omega arith) ((c .before .before .before .before .before .before .put) .ensures) ((c .before .before .put-u64) .ensures))
+
+pub put-form-spec : {M : Type 1} → statement M
+put-form-spec =
+    tie.close (tie.spec root-number-requires put-requires put-u64-requires same-length returns)

@@ -1,0 +1,3 @@
+// A job's state packed into bytes, and back.
+pub mod reading;
+pub mod writing;
