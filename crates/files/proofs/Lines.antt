@@ -1,7 +1,7 @@
 -- Digits of a number as the code writes them, and how long the two kinds of lines are.
 --     none-left, one-digit, more-digits     the digits by the code's tests
 --     refused-wrote, refusal-wrote          a refusal's line, part by part
---     line-count, refusal-count             how long the lines are
+--     line-long, line-whole, refusal-count  how long the lines are
 -- Assumes nothing.
 use mathlib.Core.Path.{_≡_, refl, ap, subst}
 use mathlib.Core.Bool.{Bool, true, false, cond}
@@ -17,8 +17,7 @@ use Rattle.tape.specs.declared.refusal.Refusal.{Refusal}
 use Rattle.tape.specs.Refusals.{numberOf, figureOf}
 use Rattle.tape.specs.Targets.{Wrote}
 use Rattle.tape.proofs.Targets.{wrote-nothing, wrote-then}
-use Rattle.printing.specs.Lines.{hexOf, hexBytes, lineOf}
-use Rattle.files.specs.Refusals.{decimalIn, decimalOf, refusalLine}
+use Rattle.files.specs.Refusals.{decimalIn, decimalOf, refusalLine, printedLength}
 
 -- ---- digits
 
@@ -57,17 +56,6 @@ pub refusal-wrote : (x : Refusal) (n f : ℕ) {o o₁ o₂ o₃ o₄ o₅ : List
     → Wrote o₄ o₅ d e (0x0a ∷ []) → Wrote o o₅ 0 e (refusalLine x)
 refusal-wrote x n f i j short p q r s t = rw (← i, ← j) (wrote-then short (wrote-then short (wrote-then short (wrote-then short p q) r) s) t)
 
-three-each : (bs : List ℕ) → length (hexBytes bs) ≡ 3 * length bs
-unfolding hexBytes
-three-each [] = refl
-three-each (b ∷ bs) = omega (arith, three-each bs, length-append (hexOf b) (hexBytes bs))
-
-line-room : (word bytes : List ℕ) → length word ≤ 128 → length bytes ≤ 65536 → length (lineOf word bytes) ≤ 196800
-line-room word bytes h k =
-    let a : length (word ++ hexBytes bytes) ≡ length word + length (hexBytes bytes) = length-append word (hexBytes bytes) in
-    let b : length (lineOf word bytes) ≡ length (word ++ hexBytes bytes) + 1 = length-append (word ++ hexBytes bytes) (0x0a ∷ []) in
-    omega (arith, three-each bytes, a, b)
-
 refusal-room : (r : Refusal) → length (refusalLine r) ≤ 64
 refusal-room r =
     let n = decimalOf (numberOf r) in
@@ -80,10 +68,17 @@ refusal-room r =
     let d : length (refusalLine r) ≡ length (q ++ f) + 1 = length-append (q ++ f) (0x0a ∷ []) in
     omega (arith, few-digits 20 (numberOf r), few-digits 20 (figureOf r), a, b, c, d)
 
--- a line that was written from the start of a target, and counted
-pub line-count : (word bytes : List ℕ) {o o₁ : List ℕ} {r : ℕ} → length word ≤ 128 → length bytes ≤ 65536 → Wrote o o₁ 0 r (lineOf word bytes)
-    → (r ≡ length (lineOf word bytes)) × (r ≤ 196800)
-line-count word bytes h k w = (omega (arith, w .next, line-room word bytes h k), omega (arith, w .next, line-room word bytes h k))
+-- a line that was written from the start of the buffer, and counted: it is printed whole, or not at all
+module _ (line : List ℕ) {o o₁ : List ℕ} {r : ℕ} (w : Wrote o o₁ 0 r line) where
+  pub line-long : 196800 < r → 0 ≡ printedLength (length line)
+  unfolding printedLength
+  line-long h = rw (lt-ltb 196800 (length line) (omega (arith, w .next))) refl
+
+  pub line-whole : r ≤ 196800 → r ≡ printedLength (length line)
+  unfolding printedLength
+  line-whole h =
+      let e : r ≡ length line = omega (arith, w .next) in
+      rw (le-ltb 196800 (length line) (omega (arith, e))) e
 
 pub refusal-count : (x : Refusal) {o o₁ : List ℕ} {r : ℕ} → Wrote o o₁ 0 r (refusalLine x) → (r ≡ length (refusalLine x)) × (r ≤ 64)
 refusal-count x w = (omega (arith, w .next, refusal-room x), omega (arith, w .next, refusal-room x))

@@ -1,9 +1,9 @@
+use Rattle.files.proofs.Lines.{line-long, line-whole}
 use Prim.Native.Nat.{ℕ, suc, _≤_, _<_, _+_, _-_}
 use native.Mathlib.Omega.{arith}
 use mathlib.Core.Path.{_≡_, refl, sym, ap, subst, _∙_}
 use lib.ListN.{length, getD, take, drop}
 use borrow.Author.Needs.{needs}
-use Rattle.files.proofs.Lines.{line-count}
 use Rattle.files.proofs.print_line.Statement.{statement}
 use Rattle.files.proofs.print_line.Tie as tie
 use Rattle.files.proofs.print_line.Reads as reads
@@ -11,33 +11,29 @@ use Rattle.files.proofs.print_line.Lts as lts
 use Rattle.io.proofs.write_all.Reads as write-all-reads
 use Rattle.printing.proofs.put_line.Reads as put-line-reads
 
--- src/lib.rt:36:35
 slice-aggregate-put-line : tie.Need-slice-aggregate-put-line
 slice-aggregate-put-line c = search needs
 
--- src/lib.rt:36:9
 put-line-requires : tie.Need-put-line-requires
 put-line-requires c κs = search needs
 
--- src/lib.rt:37:34
+returns : tie.Need-returns
+returns c = line-long _ ((c .before .before .put-line) .ensures) (omega (arith, (c .if1) .taken, (c .before .before .put-line) .kept .1 .1 .0))
+
 sub-write-all : tie.Need-sub-write-all
 sub-write-all c = search needs
 
--- src/lib.rt:37:34
 part-write-all-start : tie.Need-part-write-all-start
 part-write-all-start c = search needs
 
--- src/lib.rt:37:34
 part-write-all-end : tie.Need-part-write-all-end
-part-write-all-end c = omega (arith, line-count ((c .before .before .before .before .before .before .args) .word .now) ((c .before .before .before .before .before .before .args) .bytes .now) ((c .before .before .before .before .before .before .pre) .0) ((c .before .before .before .before .before .before .pre) .1) ((c .before .before .put-line) .ensures) .1, (c .before .before .put-line) .kept .1 .1 .0)
+part-write-all-end c = search needs
 
--- src/lib.rt:37:5
 write-all-requires : tie.Need-write-all-requires
 write-all-requires c κs = search needs
 
--- src/lib.rt:31:1
-returns : tie.Need-returns
-returns c = line-count ((c .before .before .before .before .before .before .before .before .args) .word .now) ((c .before .before .before .before .before .before .before .before .args) .bytes .now) ((c .before .before .before .before .before .before .before .before .pre) .0) ((c .before .before .before .before .before .before .before .before .pre) .1) ((c .before .before .before .before .put-line) .ensures) .0
+returns-2 : tie.Need-returns-2
+returns-2 c = line-whole _ ((c .before .before .before .before .before .put-line) .ensures) (omega (arith, (c .before .before .before .if1) .left, (c .before .before .before .before .before .put-line) .kept .1 .1 .0))
 
 pub print-line-spec : {M : Type 1} → statement M
 print-line-spec =
@@ -45,8 +41,9 @@ print-line-spec =
     (tie.spec
     slice-aggregate-put-line
     put-line-requires
+    returns
     sub-write-all
     part-write-all-start
     part-write-all-end
     write-all-requires
-    returns)
+    returns-2)

@@ -41,7 +41,7 @@ part-print-line-end c = parts ((c .before .before .before .before .before .befor
 
 -- src/main.rt:22:13
 print-line-requires : tie.Need-print-line-requires
-print-line-requires c κs = (omega arith, few ((c .before .before .before .before .before .before .before .before .args) .calls .now) ((c .before .before .before .ended2) .given .0 .0) ((c .before .before .before .before .before .before .before .before .pre) .1 .calls-room))
+print-line-requires c κs = search needs
 
 -- src/main.rt:23:24
 slice-aggregate-print-line-2 : tie.Need-slice-aggregate-print-line-2
@@ -61,7 +61,7 @@ part-print-line-end-2 c = parts ((c .before .before .before .before .before .bef
 
 -- src/main.rt:23:13
 print-line-requires-2 : tie.Need-print-line-requires-2
-print-line-requires-2 c κs = (omega arith, few ((c .before .before .before .before .before .before .before .before .before .before .before .args) .notices .now) ((c .before .before .before .before .before .before .ended2) .given .0 .1 .0) ((c .before .before .before .before .before .before .before .before .before .before .before .pre) .1 .notices-room))
+print-line-requires-2 c κs = search needs
 
 -- src/main.rt:24:24
 slice-aggregate-print-line-3 : tie.Need-slice-aggregate-print-line-3
@@ -81,7 +81,7 @@ part-print-line-end-3 c = parts ((c .before .before .before .before .before .bef
 
 -- src/main.rt:24:13
 print-line-requires-3 : tie.Need-print-line-requires-3
-print-line-requires-3 c κs = (omega arith, few ((c .before .before .before .before .before .before .before .before .before .before .before .before .before .before .args) .records .now) ((c .before .before .before .before .before .before .before .before .before .ended2) .given .0 .1 .1 .0) ((c .before .before .before .before .before .before .before .before .before .before .before .before .before .before .pre) .1 .records-room))
+print-line-requires-3 c κs = search needs
 
 -- src/main.rt:13:1
 returns : tie.Need-returns
