@@ -29,7 +29,7 @@ fn print_records(text: &[u8], state: State) {
 
 // The first n bytes.
 fn print_front(word: &[u8], bytes: &[u8], n: usize)
-    requires { ⌜ (length (now word) ≤ 128) × (n ≤ length (now bytes)) × (length (now bytes) ≤ 65536) ⌝ }
+    requires { ⌜ n ≤ length (now bytes) ⌝ }
 {
     print_line(word, &bytes[0..n]);
 }

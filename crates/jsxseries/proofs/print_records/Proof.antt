@@ -55,7 +55,7 @@ part-print-line-end c = omega (arith, records-within ((c .before .before .before
 
 -- src/main.rt:25:13
 print-line-requires : tie.Need-print-line-requires
-print-line-requires c κs = (omega arith, few ((c .before .before .before .before .before .before .before .write-records) .last .1 .1 .0) ((c .before .before .before .before .n) .given .0 .0) 65536 (omega (arith, records-within ((c .before .before .before .before .before .before .before .before .before .before .before .args) .text .now) ((c .before .before .before .before .before .before .before .before .before .before .before .args) .state) _ _ _ ((c .before .before .before .before .before .before .before .write-records) .ensures .0) ((c .before .before .before .before .n) .given .1))))
+print-line-requires c κs = search needs
 
 -- src/main.rt:18:1
 returns : tie.Need-returns

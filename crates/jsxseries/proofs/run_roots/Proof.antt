@@ -57,7 +57,7 @@ slice-aggregate-print-front-2 c = search needs
 
 -- src/main.rt:46:5
 print-front-requires : tie.Need-print-front-requires
-print-front-requires c κs = (omega arith, filled ((c .before .before .before .before .before .before .before .before .before .before .before .before .before .args) .text .now) ((c .before .before .before .before .before .before .before .before .before .before .before .before .before .args) .state) _ _ _ ((c .before .before .before .before .before .before .before .before .before .before .before .before .before .pre) .0) ((c .before .before .before .before .before .before .before .before .before .before .before .before .before .pre) .1) ((c .before .before .before .before .before .lower-all) .ensures) .0, omega (arith, (c .before .before .before .before .before .lower-all) .kept .1 .1 .1 .0))
+print-front-requires c κs = filled ((c .before .before .before .before .before .before .before .before .before .before .before .before .before .args) .text .now) ((c .before .before .before .before .before .before .before .before .before .before .before .before .before .args) .state) _ _ _ ((c .before .before .before .before .before .before .before .before .before .before .before .before .before .pre) .0) ((c .before .before .before .before .before .before .before .before .before .before .before .before .before .pre) .1) ((c .before .before .before .before .before .lower-all) .ensures) .0
 
 -- src/main.rt:47:17
 slice-aggregate-print-front-3 : tie.Need-slice-aggregate-print-front-3
@@ -69,7 +69,7 @@ slice-aggregate-print-front-4 c = search needs
 
 -- src/main.rt:47:5
 print-front-requires-2 : tie.Need-print-front-requires-2
-print-front-requires-2 c κs = (omega arith, filled ((c .before .before .before .before .before .before .before .before .before .before .before .before .before .before .before .before .args) .text .now) ((c .before .before .before .before .before .before .before .before .before .before .before .before .before .before .before .before .args) .state) _ _ _ ((c .before .before .before .before .before .before .before .before .before .before .before .before .before .before .before .before .pre) .0) ((c .before .before .before .before .before .before .before .before .before .before .before .before .before .before .before .before .pre) .1) ((c .before .before .before .before .before .before .before .before .lower-all) .ensures) .1, omega (arith, (c .before .before .before .before .before .before .before .before .lower-all) .kept .1 .1 .1 .1 .0))
+print-front-requires-2 c κs = filled ((c .before .before .before .before .before .before .before .before .before .before .before .before .before .before .before .before .args) .text .now) ((c .before .before .before .before .before .before .before .before .before .before .before .before .before .before .before .before .args) .state) _ _ _ ((c .before .before .before .before .before .before .before .before .before .before .before .before .before .before .before .before .pre) .0) ((c .before .before .before .before .before .before .before .before .before .before .before .before .before .before .before .before .pre) .1) ((c .before .before .before .before .before .before .before .before .lower-all) .ensures) .1
 
 -- src/main.rt:48:5
 print-records-requires : tie.Need-print-records-requires
