@@ -1,41 +1,28 @@
-use Prim.Native.Nat.{ℕ, suc, _≤_, _<_, _+_, _-_}
+use Prim.Native.Nat.{_-_}
 use native.Mathlib.Omega.{arith}
-use mathlib.Core.Path.{_≡_, refl, sym, ap, subst, _∙_}
-use lib.ListN.{length, getD, take, drop}
 use borrow.Author.Needs.{needs}
 use Rattle.files.proofs.Lines.{line-count}
 use Rattle.files.proofs.print_line.Statement.{statement}
 use Rattle.files.proofs.print_line.Tie as tie
-use Rattle.files.proofs.print_line.Reads as reads
-use Rattle.files.proofs.print_line.Lts as lts
-use Rattle.io.proofs.write_all.Reads as write-all-reads
-use Rattle.printing.proofs.put_line.Reads as put-line-reads
 
--- src/lib.rt:36:35
 slice-aggregate-put-line : tie.Need-slice-aggregate-put-line
 slice-aggregate-put-line c = search needs
 
--- src/lib.rt:36:9
 put-line-requires : tie.Need-put-line-requires
 put-line-requires c κs = search needs
 
--- src/lib.rt:37:34
 sub-write-all : tie.Need-sub-write-all
 sub-write-all c = search needs
 
--- src/lib.rt:37:34
 part-write-all-start : tie.Need-part-write-all-start
 part-write-all-start c = search needs
 
--- src/lib.rt:37:34
 part-write-all-end : tie.Need-part-write-all-end
 part-write-all-end c = omega (arith, line-count ((c .before .before .before .before .before .before .args) .word .now) ((c .before .before .before .before .before .before .args) .bytes .now) ((c .before .before .before .before .before .before .pre) .0) ((c .before .before .before .before .before .before .pre) .1) ((c .before .before .put-line) .ensures) .1, (c .before .before .put-line) .kept .1 .1 .0)
 
--- src/lib.rt:37:5
 write-all-requires : tie.Need-write-all-requires
 write-all-requires c κs = search needs
 
--- src/lib.rt:31:1
 returns : tie.Need-returns
 returns c = line-count ((c .before .before .before .before .before .before .before .before .args) .word .now) ((c .before .before .before .before .before .before .before .before .args) .bytes .now) ((c .before .before .before .before .before .before .before .before .pre) .0) ((c .before .before .before .before .before .before .before .before .pre) .1) ((c .before .before .before .before .put-line) .ensures) .0
 
