@@ -1,8 +1,7 @@
 -- What a run over a list of roots comes to.
 use mathlib.Core.Path.{_≡_}
-use Prim.Native.Nat.{ℕ, _≤_}
+use Prim.Native.Nat.{ℕ}
 use mathlib.Core.List.{List}
-use lib.ListN.{length}
 use Rattle.definitions.specs.declared.state.State.{State}
 use Rattle.definitions.specs.Series.{World, series}
 use Rattle.jsxseries.specs.declared.series.Next.{Next}
@@ -11,7 +10,7 @@ use Rattle.jsxseries.specs.declared.series.Next.the-variants.{Root, End}
 abbrev pub world : State → List ℕ → List ℕ → World
 world s calls notices = record { state = s; calls = calls; notices = notices }
 
--- w is what some list of roots, which the run read, leaves of v
+-- w is what some list of roots leaves of v: no contract can say which bytes are read
 pub record Ran (text : List ℕ) (v w : World) : Type 0 where
   pub roots : List (List ℕ)
   pub came : w ≡ series text v roots

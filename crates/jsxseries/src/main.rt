@@ -34,7 +34,7 @@ fn print_front(word: &[u8], bytes: &[u8], n: usize)
     print_line(word, &bytes[0..n]);
 }
 
-// The state is that of a job that was just opened.
+// The state is that of a job that was just opened. A list that is missing has no roots: nothing can be read of it.
 fn run_roots(text: &[u8], state: State)
     requires { ⌜ (state .calls ≡ 0) × (state .notices ≡ 0) ⌝ }
 {

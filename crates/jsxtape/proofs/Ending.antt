@@ -4,14 +4,11 @@
 --     parts, few                                     what is printed is a part of each target
 -- Assumes nothing.
 use mathlib.Core.Path.{_≡_, refl, sym, ap, subst, _∙_}
-use mathlib.Core.Bool.{true, false}
-use mathlib.Core.List.{List, [], _∷_, _++_}
+use mathlib.Core.List.{List, _++_}
 use Prim.Native.Nat.{ℕ, _+_, _-_, _≤_, zero-le}
 use native.Mathlib.Omega.{arith}
 use lib.ListN.{length, take, length-take}
-use lib.Dec.{ltb}
 use borrow.Author.Tests.{ltb-false}
-use Rattle.text.specs.Utf8.{firstIll}
 use Rattle.tape.specs.declared.refusal.Refusal.{Refusal}
 use Rattle.definitions.specs.declared.options.Settings.{Settings}
 use Rattle.definitions.specs.declared.state.State.{State}

@@ -13,6 +13,7 @@ unfoldable pub shown : Ended → List ℕ → List ℕ → List ℕ → Printed
 shown (Written c n d) calls notices records = printed (take c calls) (take n notices) (take d records)
 shown (Refused r) calls notices records = printedRefusal r
 
+-- no count is over k; a refusal has none
 unfoldable pub most : Ended → ℕ → Type 0
 most (Written c n d) k = (c ≤ k) × (n ≤ k) × (d ≤ k)
 most (Refused r) k = 0 ≤ k

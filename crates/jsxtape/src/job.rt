@@ -1,6 +1,4 @@
 // A job of one root: opening, the root, the records.
-ghost use mathlib.Core.Path.{_≡_};
-ghost use lib.ListN.{length};
 ghost use Rattle.definitions.specs.Entries.{judgeRoot};
 ghost use Rattle.definitions.specs.Program.{room, printRoot, jsxtape};
 ghost use Rattle.jsxtape.specs.Endings.{Ends, Fresh, Rooms};

@@ -1,9 +1,7 @@
 use borrow.Author.Needs.{needs}
 use Rattle.files.proofs.Lines.{none-left, one-digit, more-digits}
-use Prim.Native.Nat.{ℕ, suc, _≤_, _<_, _+_, _-_}
+use Prim.Native.Nat.{ℕ, _<_, _+_, _-_}
 use native.Mathlib.Omega.{arith}
-use mathlib.Core.Path.{_≡_, refl, sym, ap, subst, _∙_}
-use lib.ListN.{length, getD, take, drop}
 use borrow.Fn.Kinds.{In}
 use borrow.Fn.PlainCycle.{Measures, is, falls, and}
 use Rattle.files.proofs.put_decimal.Reads as put-decimal
@@ -24,7 +22,6 @@ abbrev put-decimal-below : ℕ → In 1 put-decimal-kinds.ps
 put-decimal-below t =
     and 1 put-decimal-kinds.ps (falls 1 put-decimal-kinds.ps _<_ μ-put-decimal t) put-decimal.Pre
 
--- src/lib.rt:47:9
 put-decimal-returns : (t : ℕ) → put-decimal-lts.Need-returns (
   put-reads.Asked,
   put-reads.Learnt,
@@ -33,7 +30,6 @@ put-decimal-returns : (t : ℕ) → put-decimal-lts.Need-returns (
 ) (put-decimal-at t) put-decimal.Post
 put-decimal-returns t c = none-left _ _ ((c .if1) .taken) (omega arith)
 
--- src/lib.rt:50:36
 put-decimal-cast-put : (t : ℕ) → put-decimal-lts.Need-cast-put (
   put-reads.Asked,
   put-reads.Learnt,
@@ -42,7 +38,6 @@ put-decimal-cast-put : (t : ℕ) → put-decimal-lts.Need-cast-put (
 ) (put-decimal-at t) put-decimal.Post
 put-decimal-cast-put t c = search needs
 
--- src/lib.rt:50:29
 put-decimal-add-put : (t : ℕ) → put-decimal-lts.Need-add-put (
   put-reads.Asked,
   put-reads.Learnt,
@@ -51,7 +46,6 @@ put-decimal-add-put : (t : ℕ) → put-decimal-lts.Need-add-put (
 ) (put-decimal-at t) put-decimal.Post
 put-decimal-add-put t c = search needs
 
--- src/lib.rt:50:9
 put-decimal-put-requires : (t : ℕ) → put-decimal-lts.Need-put-requires (
   put-reads.Asked,
   put-reads.Learnt,
@@ -60,7 +54,6 @@ put-decimal-put-requires : (t : ℕ) → put-decimal-lts.Need-put-requires (
 ) (put-decimal-at t) put-decimal.Post
 put-decimal-put-requires t c κs = search needs
 
--- src/lib.rt:50:9
 put-decimal-same-length : (t : ℕ) → put-decimal-lts.Need-same-length (
   put-reads.Asked,
   put-reads.Learnt,
@@ -69,7 +62,6 @@ put-decimal-same-length : (t : ℕ) → put-decimal-lts.Need-same-length (
 ) (put-decimal-at t) put-decimal.Post
 put-decimal-same-length t c = search needs
 
--- src/lib.rt:50:9
 put-decimal-returns-2 : (t : ℕ) → put-decimal-lts.Need-returns-2 (
   put-reads.Asked,
   put-reads.Learnt,
@@ -78,7 +70,6 @@ put-decimal-returns-2 : (t : ℕ) → put-decimal-lts.Need-returns-2 (
 ) (put-decimal-at t) put-decimal.Post
 put-decimal-returns-2 t c = one-digit _ _ (omega arith) ((c .before .before .before .before .if2) .taken) ((c .before .before .put) .ensures)
 
--- src/lib.rt:52:36
 put-decimal-sub-put-decimal : (t : ℕ) → put-decimal-lts.Need-sub-put-decimal (
   put-reads.Asked,
   put-reads.Learnt,
@@ -87,7 +78,6 @@ put-decimal-sub-put-decimal : (t : ℕ) → put-decimal-lts.Need-sub-put-decimal
 ) (put-decimal-at t) put-decimal.Post
 put-decimal-sub-put-decimal t c = search needs
 
--- src/lib.rt:52:9
 put-decimal-put-decimal-requires : (t : ℕ) → put-decimal-lts.Need-put-decimal-requires (
   put-reads.Asked,
   put-reads.Learnt,
@@ -96,7 +86,6 @@ put-decimal-put-decimal-requires : (t : ℕ) → put-decimal-lts.Need-put-decima
 ) (put-decimal-at t) put-decimal.Post
 put-decimal-put-decimal-requires t c κs = (omega arith, omega arith)
 
--- src/lib.rt:53:27
 put-decimal-cast-put-2 : (t : ℕ) → put-decimal-lts.Need-cast-put-2 (
   put-reads.Asked,
   put-reads.Learnt,
@@ -105,7 +94,6 @@ put-decimal-cast-put-2 : (t : ℕ) → put-decimal-lts.Need-cast-put-2 (
 ) (put-decimal-at t) put-decimal.Post
 put-decimal-cast-put-2 t c = search needs
 
--- src/lib.rt:53:20
 put-decimal-add-put-2 : (t : ℕ) → put-decimal-lts.Need-add-put-2 (
   put-reads.Asked,
   put-reads.Learnt,
@@ -114,7 +102,6 @@ put-decimal-add-put-2 : (t : ℕ) → put-decimal-lts.Need-add-put-2 (
 ) (put-decimal-at t) put-decimal.Post
 put-decimal-add-put-2 t c = search needs
 
--- src/lib.rt:53:5
 put-decimal-put-requires-2 : (t : ℕ) → put-decimal-lts.Need-put-requires-2 (
   put-reads.Asked,
   put-reads.Learnt,
@@ -123,7 +110,6 @@ put-decimal-put-requires-2 : (t : ℕ) → put-decimal-lts.Need-put-requires-2 (
 ) (put-decimal-at t) put-decimal.Post
 put-decimal-put-requires-2 t c κs = search needs
 
--- src/lib.rt:42:1
 put-decimal-same-length-2 : (t : ℕ) → put-decimal-lts.Need-same-length-2 (
   put-reads.Asked,
   put-reads.Learnt,
@@ -132,7 +118,6 @@ put-decimal-same-length-2 : (t : ℕ) → put-decimal-lts.Need-same-length-2 (
 ) (put-decimal-at t) put-decimal.Post
 put-decimal-same-length-2 t c = search needs
 
--- src/lib.rt:42:1
 put-decimal-returns-3 : (t : ℕ) → put-decimal-lts.Need-returns-3 (
   put-reads.Asked,
   put-reads.Learnt,

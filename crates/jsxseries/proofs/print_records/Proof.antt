@@ -1,67 +1,46 @@
-use Prim.Native.Nat.{ℕ, suc, _≤_, _<_, _+_, _-_}
+use Prim.Native.Nat.{_-_}
 use native.Mathlib.Omega.{arith}
-use mathlib.Core.Path.{_≡_, refl, sym, ap, subst, _∙_}
-use lib.ListN.{length, getD, take, drop}
 use borrow.Author.Needs.{needs}
 use Rattle.jsxseries.proofs.Runs.{records-within, few}
 use Rattle.jsxseries.proofs.print_records.Statement.{statement}
 use Rattle.jsxseries.proofs.print_records.Tie as tie
-use Rattle.jsxseries.proofs.print_records.Reads as reads
-use Rattle.jsxseries.proofs.print_records.Lts as lts
-use Rattle.files.proofs.print_line.Reads as print-line-reads
-use Rattle.files.proofs.print_refusal.Reads as print-refusal-reads
-use Rattle.io.proofs.large_buffer.Reads as large-buffer-reads
-use Rattle.store.proofs.module_imports.write_records.Reads as write-records-reads
 
--- src/main.rt:19:23
 large-buffer-requires : tie.Need-large-buffer-requires
 large-buffer-requires c κs = search needs
 
--- src/main.rt:20:38
 slice-aggregate-write-records : tie.Need-slice-aggregate-write-records
 slice-aggregate-write-records c = search needs
 
--- src/main.rt:20:11
 write-records-requires : tie.Need-write-records-requires
 write-records-requires c κs = search needs
 
--- src/main.rt:21:26
 enum-known-refusal : tie.Need-enum-known-refusal
 enum-known-refusal c = search needs
 
--- src/main.rt:22:13
 print-refusal-requires : tie.Need-print-refusal-requires
 print-refusal-requires c κs = search needs
 
--- src/main.rt:24:27
 enum-known-n : tie.Need-enum-known-n
 enum-known-n c = search needs
 
--- src/main.rt:25:24
 slice-aggregate-print-line : tie.Need-slice-aggregate-print-line
 slice-aggregate-print-line c = search needs
 
--- src/main.rt:25:36
 sub-print-line : tie.Need-sub-print-line
 sub-print-line c = search needs
 
--- src/main.rt:25:36
 part-print-line-start : tie.Need-part-print-line-start
 part-print-line-start c = search needs
 
--- src/main.rt:25:36
 part-print-line-end : tie.Need-part-print-line-end
 part-print-line-end c = omega (arith, records-within ((c .before .before .before .before .before .before .before .before .before .before .args) .text .now) ((c .before .before .before .before .before .before .before .before .before .before .args) .state) _ _ _ ((c .before .before .before .before .before .before .write-records) .ensures .0) ((c .before .before .before .n) .given .1), (c .before .before .before .before .before .before .write-records) .kept .1 .1 .0)
 
--- src/main.rt:25:13
 print-line-requires : tie.Need-print-line-requires
 print-line-requires c κs = search needs
 
--- src/main.rt:18:1
 returns : tie.Need-returns
 returns c = search needs
 
--- src/main.rt:18:1
 returns-2 : tie.Need-returns-2
 returns-2 c = search needs
 

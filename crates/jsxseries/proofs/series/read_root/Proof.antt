@@ -1,71 +1,51 @@
-use Prim.Native.Nat.{ℕ, suc, _≤_, _<_, _+_, _-_}
+use Prim.Native.Nat.{_-_}
 use native.Mathlib.Omega.{arith}
-use mathlib.Core.Path.{_≡_, refl, sym, ap, subst, _∙_}
-use lib.ListN.{length, getD, take, drop}
 use borrow.Author.Needs.{needs}
 use Rattle.jsxseries.specs.Running.{sizeIn}
 use Rattle.jsxseries.proofs.series.read_root.Statement.{statement}
 use Rattle.jsxseries.proofs.series.read_root.Tie as tie
-use Rattle.jsxseries.proofs.series.read_root.Reads as reads
-use Rattle.jsxseries.proofs.series.read_root.Lts as lts
-use Rattle.io.proofs.read_full.Reads as read-full-reads
-use Rattle.tape.proofs.numbers.read_u16.Reads as read-u16-reads
 
--- src/series.rt:26:26
 slice-aggregate-read-full : tie.Need-slice-aggregate-read-full
 slice-aggregate-read-full c = search needs
 
--- src/series.rt:26:8
 read-full-requires : tie.Need-read-full-requires
 read-full-requires c κs = search needs
 
--- src/series.rt:27:9
 returns : tie.Need-returns
 unfolding sizeIn
 returns c = omega arith
 
--- src/series.rt:29:22
 slice-aggregate-read-u16 : tie.Need-slice-aggregate-read-u16
 slice-aggregate-read-u16 c = search needs
 
--- src/series.rt:29:13
 read-u16-requires : tie.Need-read-u16-requires
 read-u16-requires c κs = search needs
 
--- src/series.rt:29:13
 cast-n : tie.Need-cast-n
 cast-n c = search needs
 
--- src/series.rt:30:26
 sub-read-full : tie.Need-sub-read-full
 sub-read-full c = search needs
 
--- src/series.rt:30:26
 part-read-full-start : tie.Need-part-read-full-start
 part-read-full-start c = search needs
 
--- src/series.rt:30:26
 part-read-full-end : tie.Need-part-read-full-end
 part-read-full-end c = search needs
 
--- src/series.rt:30:8
 read-full-requires-2 : tie.Need-read-full-requires-2
 read-full-requires-2 c κs = search needs
 
--- src/series.rt:31:9
 same-length : tie.Need-same-length
 same-length c = search needs
 
--- src/series.rt:31:9
 returns-2 : tie.Need-returns-2
 unfolding sizeIn
 returns-2 c = omega arith
 
--- src/series.rt:21:1
 same-length-2 : tie.Need-same-length-2
 same-length-2 c = search needs
 
--- src/series.rt:21:1
 returns-3 : tie.Need-returns-3
 unfolding sizeIn
 returns-3 c = omega arith

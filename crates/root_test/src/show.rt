@@ -1,0 +1,67 @@
+// Lines of what is answered.
+use definitions::state::Answer;
+use definitions::state::State;
+use definitions::state::Written;
+use libc::STDOUT_FILENO;
+use store::module_imports::write_records;
+use tape::refusal::Refusal;
+use tape::refusal::figure;
+use tape::refusal::number;
+
+pub fn say(word: &[u8]) {
+    io::write_all(STDOUT_FILENO, word);
+}
+
+fn wide(b: u8) -> u64 {
+    b as u64
+}
+
+fn show_bytes(bytes: &[u8]) {
+    let mut i = 0;
+    while i < bytes.len() {
+        say(b" ");
+        io::print_hex(STDOUT_FILENO, wide(bytes[i]), 2);
+        i += 1;
+    }
+}
+
+fn show_refusal(refusal: Refusal) {
+    say(b" refused ");
+    io::print_decimal(STDOUT_FILENO, number(refusal) as u64);
+    say(b" ");
+    io::print_decimal(STDOUT_FILENO, figure(refusal) as u64);
+}
+
+pub fn show_answer(answer: Answer) {
+    match answer {
+        Answer::Accepted => say(b" accepted"),
+        Answer::Refused(refusal) => show_refusal(refusal),
+    }
+}
+
+// How far a target is filled, and all of it.
+fn show_target(word: &[u8], fill: usize, target: &[u8]) {
+    say(word);
+    io::print_decimal(STDOUT_FILENO, fill as u64);
+    say(b":");
+    show_bytes(target);
+}
+
+pub fn show_targets(state: State, calls: &[u8], notices: &[u8]) {
+    show_target(b"; calls ", state.calls, calls);
+    show_target(b"; notices ", state.notices, notices);
+}
+
+// Writes the records and ends the line.
+pub fn show_records(text: &[u8], state: State, target: &mut [u8]) {
+    match write_records(text, state, target) {
+        Written::Accepted(n) => show_target(b"; records ", n, target),
+        Written::Refused(refusal) => {
+            say(b"; records");
+            show_refusal(refusal);
+            say(b":");
+            show_bytes(target);
+        }
+    }
+    say(b"\n");
+}
