@@ -3,30 +3,27 @@
 // number and what was computed. Then random texts, whose checksum tests/utf8_checksum.py computes by another decoder.
 ghost use Prim.Native.Nat.{_+_, _<_, _≤_, _^_};
 
-mod answers;
-mod lines;
 mod making;
 mod random;
 mod tape_answers;
 mod text_answers;
-mod values;
 
-use crate::answers::Answer;
-use crate::answers::MOST;
-use crate::answers::named;
-use crate::answers::same_values;
-use crate::answers::values_of;
-use crate::lines::after;
-use crate::lines::before;
-use crate::lines::line_end;
-use crate::lines::next_word;
-use crate::lines::word_count;
-use crate::values::WORDS;
-use crate::values::hex_bytes;
-use crate::values::letters_of;
 use libc::STDIN_FILENO;
 use libc::STDOUT_FILENO;
 use text::bytes::same;
+use vectors::answers::Answer;
+use vectors::answers::MOST;
+use vectors::answers::named;
+use vectors::answers::same_values;
+use vectors::answers::values_of;
+use vectors::lines::after;
+use vectors::lines::before;
+use vectors::lines::line_end;
+use vectors::lines::next_word;
+use vectors::lines::word_count;
+use vectors::values::WORDS;
+use vectors::values::hex_bytes;
+use vectors::values::letters_of;
 
 // The input's size has to be below this.
 const SIZE: usize = 131072;

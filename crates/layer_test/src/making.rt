@@ -1,11 +1,11 @@
 // Answers out of what the two crates return.
-use crate::answers::Answer;
-use crate::answers::named;
-use crate::answers::no_values;
-use crate::answers::with_value;
 use commands::root::Place;
 use text::bytes::Found;
 use text::spans::Span;
+use vectors::answers::Answer;
+use vectors::answers::named;
+use vectors::answers::no_values;
+use vectors::answers::with_value;
 
 pub fn with_number(name: &[u8], n: u64) -> Answer {
     with_value(named(name), n)

@@ -1,15 +1,9 @@
 // What the crate `tape` says of an operation's bytes: numbers and targets, the readers of commands, refusals.
 ghost use Prim.Native.Nat.{_<_};
-use crate::answers::Answer;
-use crate::answers::named;
-use crate::answers::no_values;
-use crate::answers::with_bytes;
-use crate::answers::with_value;
 use crate::making::and_span;
 use crate::making::with_number;
 use crate::making::with_place;
 use crate::making::with_span;
-use crate::values::value_of;
 use commands::opening::FlagsCommand;
 use commands::opening::OptionCommand;
 use commands::opening::flags_command_at;
@@ -44,6 +38,12 @@ use tape::target::put_u16;
 use tape::target::put_u32;
 use text::bytes::same;
 use text::spans::Span;
+use vectors::answers::Answer;
+use vectors::answers::named;
+use vectors::answers::no_values;
+use vectors::answers::with_bytes;
+use vectors::answers::with_value;
+use vectors::values::value_of;
 
 pub fn answer(operation: &[u8], bytes: &[u8]) -> Answer {
     if same(operation, b"u16") {

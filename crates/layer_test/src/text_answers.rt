@@ -1,9 +1,4 @@
 // What the crate `text` says of an operation's bytes.
-use crate::answers::Answer;
-use crate::answers::named;
-use crate::answers::no_values;
-use crate::answers::with_bytes;
-use crate::answers::with_value;
 use crate::making::place_found;
 use tape::numbers::read_span;
 use text::bytes::find_byte;
@@ -16,6 +11,11 @@ use text::spans::Bounds;
 use text::spans::part;
 use text::spans::span_bounds;
 use text::utf8::first_ill_formed;
+use vectors::answers::Answer;
+use vectors::answers::named;
+use vectors::answers::no_values;
+use vectors::answers::with_bytes;
+use vectors::answers::with_value;
 
 pub fn well_formed(s: &[u8]) -> Answer {
     place_found(first_ill_formed(s))

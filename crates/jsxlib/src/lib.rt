@@ -1,0 +1,151 @@
+// The entries for programs in other languages, over bytes and numbers. A job's state stands packed in bytes that the caller lends. Each entry
+// answers 0, or document 01's number of a refusal, and puts its figure where the caller can read it. A refusal leaves the state's bytes and the
+// targets as they are.
+ghost use mathlib.Core.Path.{_≡_};
+ghost use mathlib.Core.Bool.{cond};
+ghost use lib.ListN.{length};
+ghost use Rattle.definitions.specs.Entries.{opened, recordsAnswer, recordsTarget};
+ghost use Rattle.packing.specs.Packed.{unpacked, unpackedAnswer};
+ghost use Rattle.jsxlib.specs.Entries.{stateFrom, numberBy, figureBy, stateAfter, answerIn, openAnswer, rootOver, recordsOver, recordsNumber, recordsFigure};
+use definitions::state::Answer;
+use definitions::state::State;
+use definitions::state::Written;
+use lowering::lower_root;
+use packing::reading::unpack;
+use packing::writing::pack;
+use settings::opening::open_job;
+use store::module_imports::write_records;
+use tape::refusal::Refusal;
+use tape::refusal::figure;
+use tape::refusal::number;
+
+fn figure_by(answer: Answer, size: usize) -> usize
+    ensures { λ r. ⌜ r ≡ figureBy size answer ⌝ }
+{
+    match answer {
+        Answer::Accepted => size,
+        Answer::Refused(refusal) => figure(refusal),
+    }
+}
+
+fn answer_in(answer: Answer, room: usize) -> Answer
+    ensures { λ r. ⌜ r ≡ answerIn room answer ⌝ }
+{
+    match answer {
+        Answer::Accepted => {
+            if room < 102 {
+                return Answer::Refused(Refusal::Space(102));
+            }
+            Answer::Accepted
+        }
+        Answer::Refused(refusal) => Answer::Refused(refusal),
+    }
+}
+
+// The state of an accepted entry into its bytes, and the entry's number.
+fn settle(answer: Answer, state: State, bytes: &mut [u8]) -> u8
+    ensures { λ r. ⌜ r ≡ numberBy answer ⌝ }
+    ensures { λ _. ⌜ now (bytes .exit) ≡ stateAfter answer state (now (bytes .entry)) ⌝ }
+{
+    match answer {
+        Answer::Accepted => {
+            pack(state, bytes);
+            0
+        }
+        Answer::Refused(refusal) => number(refusal),
+    }
+}
+
+fn records_number(answer: Written) -> u8
+    ensures { λ r. ⌜ r ≡ recordsNumber answer ⌝ }
+{
+    match answer {
+        Written::Accepted(_) => 0,
+        Written::Refused(refusal) => number(refusal),
+    }
+}
+
+fn records_figure(answer: Written) -> usize
+    ensures { λ r. ⌜ r ≡ recordsFigure answer ⌝ }
+{
+    match answer {
+        Written::Accepted(size) => size,
+        Written::Refused(refusal) => figure(refusal),
+    }
+}
+
+// Opens a job over a text: the state's 102 bytes at the front of `state`. Where there is no room for them, 10 with 102.
+#[no_mangle]
+pub extern "C" fn jsx_open(text: &[u8], job: &[u8], state: &mut [u8], figure: &mut usize) -> u8
+    ensures { λ r. ⌜ r ≡ numberBy (openAnswer (now (text .entry)) (now (job .entry)) (length (now (state .entry)))) ⌝ }
+    ensures { λ _. ⌜ now (figure .exit) ≡ figureBy 102 (openAnswer (now (text .entry)) (now (job .entry)) (length (now (state .entry)))) ⌝ }
+    ensures { λ _. ⌜ now (state .exit) ≡ stateAfter (openAnswer (now (text .entry)) (now (job .entry)) (length (now (state .entry)))) (opened (now (text .entry)) (now (job .entry)) .state) (now (state .entry)) ⌝ }
+{
+    let stepped = open_job(text, job);
+    let told = stepped.answer;
+    let opening = stepped.state;
+    let answer = answer_in(told, state.len());
+    *figure = figure_by(answer, 102);
+    settle(answer, opening, state)
+}
+
+// Lowers a root: its calls and notices behind those of the roots before it, and the state after it in place of the state before.
+#[no_mangle]
+pub extern "C" fn jsx_root(
+    text: &[u8],
+    state: &mut [u8],
+    tape: &[u8],
+    calls: &mut [u8],
+    notices: &mut [u8],
+    figure: &mut usize,
+) -> u8
+    ensures { λ r. ⌜ r ≡ numberBy (rootOver (now (text .entry)) (now (state .entry)) (now (tape .entry)) (now (calls .entry)) (now (notices .entry)) .stepped .answer) ⌝ }
+    ensures { λ _. ⌜ now (figure .exit) ≡ figureBy 0 (rootOver (now (text .entry)) (now (state .entry)) (now (tape .entry)) (now (calls .entry)) (now (notices .entry)) .stepped .answer) ⌝ }
+    ensures { λ _. ⌜ now (state .exit) ≡ stateAfter (rootOver (now (text .entry)) (now (state .entry)) (now (tape .entry)) (now (calls .entry)) (now (notices .entry)) .stepped .answer) (rootOver (now (text .entry)) (now (state .entry)) (now (tape .entry)) (now (calls .entry)) (now (notices .entry)) .stepped .state) (now (state .entry)) ⌝ }
+    ensures { λ _. ⌜ now (calls .exit) ≡ rootOver (now (text .entry)) (now (state .entry)) (now (tape .entry)) (now (calls .entry)) (now (notices .entry)) .calls ⌝ }
+    ensures { λ _. ⌜ now (notices .exit) ≡ rootOver (now (text .entry)) (now (state .entry)) (now (tape .entry)) (now (calls .entry)) (now (notices .entry)) .notices ⌝ }
+{
+    let before = unpack(state);
+    let from = before.state;
+    let stepped = lower_root(text, from, tape, calls, notices);
+    let answer = stepped.answer;
+    let next = stepped.state;
+    *figure = figure_by(answer, 0);
+    settle(answer, next, state)
+}
+
+// Writes the record tape; the figure is how many bytes it has.
+#[no_mangle]
+pub extern "C" fn jsx_records(
+    text: &[u8],
+    state: &[u8],
+    target: &mut [u8],
+    figure: &mut usize,
+) -> u8
+    ensures { λ r. ⌜ r ≡ recordsNumber (recordsAnswer (recordsOver (now (text .entry)) (now (state .entry)) (length (now (target .entry))))) ⌝ }
+    ensures { λ _. ⌜ now (figure .exit) ≡ recordsFigure (recordsAnswer (recordsOver (now (text .entry)) (now (state .entry)) (length (now (target .entry))))) ⌝ }
+    ensures { λ _. ⌜ now (target .exit) ≡ recordsTarget (now (target .entry)) (recordsOver (now (text .entry)) (now (state .entry)) (length (now (target .entry)))) ⌝ }
+{
+    let unpacked = unpack(state);
+    let from = unpacked.state;
+    let answer = write_records(text, from, target);
+    *figure = records_figure(answer);
+    records_number(answer)
+}
+
+// How many bytes of the call target and of the notice target are filled: 0, or 12 where the bytes are no state's.
+#[no_mangle]
+pub extern "C" fn jsx_fills(state: &[u8], calls: &mut usize, notices: &mut usize) -> u8
+    ensures { λ r. ⌜ r ≡ cond (unpackedAnswer (unpacked (now (state .entry))) .good) 0 12 ⌝ }
+    ensures { λ _. ⌜ now (calls .exit) ≡ stateFrom (now (state .entry)) .calls ⌝ }
+    ensures { λ _. ⌜ now (notices .exit) ≡ stateFrom (now (state .entry)) .notices ⌝ }
+{
+    let told = unpack(state);
+    let from = told.state;
+    *calls = from.calls;
+    *notices = from.notices;
+    if told.good {
+        return 0;
+    }
+    12
+}

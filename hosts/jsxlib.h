@@ -1,0 +1,55 @@
+/* JSX lowering over tapes: the entries of target/staticlib/libjsxlib.a (`rt staticlib jsxlib`), for x86-64 Linux.
+ *
+ * Every entry answers 0, or the number of a refusal, and stores the refusal's figure at `figure`:
+ *
+ *      1  text or tape over 65,535 bytes                              65,535
+ *      2  the text is not UTF-8                                       start of the first ill-formed sequence
+ *      3  command or operand not allowed here, or the tape ends       command's offset, or tape length
+ *      4  span outside the text, cutting a character, or empty name   command's offset
+ *      5  classic, and a pragma in force has a byte over 7F           that byte's offset in the text
+ *      6  65th level of elements and fragments                        command's offset
+ *      7  ampersand in a string or a text                             command's offset
+ *      8  line or column 4,294,967,295                                command's offset
+ *      9  more than 8 bindings                                        8
+ *     10  target (or state) has no room                               bytes that this entry would write
+ *     11  notice target has no room                                   the same, of notices
+ *     12  the state is not one that these entries made                0
+ *
+ * A refusal leaves the state and every target as they were, so an entry that wants room can be called again with more.
+ *
+ * What a caller owes: each pointer points to as many bytes as the length behind it says and is not null, also where that is 0;
+ * what an entry writes (no `const`) overlaps nothing else that it is given. The entries keep nothing between calls and no pointer.
+ */
+#ifndef JSXLIB_H
+#define JSXLIB_H
+
+#include <stddef.h>
+#include <stdint.h>
+
+#ifdef __cplusplus
+extern "C" {
+#endif
+
+/* A job's state: exactly this many bytes, to be kept and copied as one likes. Bytes that are no state's are refused by 12. */
+#define JSX_STATE_SIZE 102
+
+/* Opens a job: reads the opening tape over the text and writes the state to the front of `state`. On 0 the figure is JSX_STATE_SIZE. */
+uint8_t jsx_open(const uint8_t *text, size_t text_len, const uint8_t *job, size_t job_len, uint8_t *state, size_t state_len, size_t *figure);
+
+/* Lowers a root: its calls and notices go behind those of the roots before it, as far as the state says the targets are filled.
+ * `text` is the text of jsx_open, `state_len` is JSX_STATE_SIZE. On 0 the state is the one after the root, and the figure is 0. */
+uint8_t jsx_root(const uint8_t *text, size_t text_len, uint8_t *state, size_t state_len, const uint8_t *tape, size_t tape_len, uint8_t *calls,
+                 size_t calls_len, uint8_t *notices, size_t notices_len, size_t *figure);
+
+/* Writes the record tape of the roots so far to the front of `target`. On 0 the figure is its length. */
+uint8_t jsx_records(const uint8_t *text, size_t text_len, const uint8_t *state, size_t state_len, uint8_t *target, size_t target_len,
+                    size_t *figure);
+
+/* How many bytes of the call target and of the notice target are filled; 0, or 12 (and two zeros) where the bytes are no state's. */
+uint8_t jsx_fills(const uint8_t *state, size_t state_len, size_t *calls, size_t *notices);
+
+#ifdef __cplusplus
+}
+#endif
+
+#endif

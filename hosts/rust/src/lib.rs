@@ -1,0 +1,126 @@
+//! Lowers JSX, given as tapes over a text, to calls, notices and import records. A safe wrapper around `libjsxlib.a`, whose entries are proved.
+//!
+//! ```
+//! use jsx_lowering::{Job, Settings};
+//!
+//! let settings = Settings { module: true, ..Settings::default() };
+//! let mut job = Job::open(b"a", &settings.tape())?;
+//! // <a/> in a function, at line 0, column 0
+//! let root = [1, 0, 2, 3, 0x10, 0, 0, 0, 0, 0, 0, 0, 0, 0x20, 0, 0, 1, 0, 0x1e, 0x1f];
+//! let lowered = job.lower_root(&root)?;
+//! assert_eq!(lowered.calls[..2], [0x80, 0x01]);
+//! assert_eq!(job.records()?, [0xb0, 1, 0xb1, 2, 0]);
+//! # Ok::<(), jsx_lowering::Refusal>(())
+//! ```
+
+#[cfg(not(all(target_arch = "x86_64", target_os = "linux")))]
+compile_error!("libjsxlib.a is compiled for x86-64 Linux");
+
+mod raw;
+mod refusal;
+mod settings;
+
+pub use refusal::Refusal;
+pub use settings::{Settings, Span};
+
+/// How many bytes a job's state has.
+pub const STATE_SIZE: usize = 102;
+
+/// A job over a text: its state, and what its roots gave so far.
+#[derive(Clone, Debug)]
+pub struct Job<'t> {
+    text: &'t [u8],
+    state: [u8; STATE_SIZE],
+    calls: Vec<u8>,
+    notices: Vec<u8>,
+}
+
+/// What one root added.
+#[derive(Clone, Copy, Debug, PartialEq, Eq)]
+pub struct Lowered<'j> {
+    pub calls: &'j [u8],
+    pub notices: &'j [u8],
+}
+
+impl<'t> Job<'t> {
+    /// Opens a job over a text by an opening tape, as `Settings::tape` makes one.
+    pub fn open(text: &'t [u8], tape: &[u8]) -> Result<Job<'t>, Refusal> {
+        let mut state = [0; STATE_SIZE];
+        raw::open(text, tape, &mut state)?;
+        Ok(Job { text, state, calls: Vec::new(), notices: Vec::new() })
+    }
+
+    /// A job taken up again, from the bytes of its state and from its calls and notices so far. A state that does not fit them is refused
+    /// here, and one that does not fit the text by the next entry.
+    pub fn resume(
+        text: &'t [u8],
+        state: &[u8],
+        calls: Vec<u8>,
+        notices: Vec<u8>,
+    ) -> Result<Job<'t>, Refusal> {
+        let state: [u8; STATE_SIZE] = state.try_into().map_err(|_| Refusal::Forged)?;
+        let fills = raw::fills(&state)?;
+        if fills != (calls.len(), notices.len()) {
+            return Err(Refusal::Forged);
+        }
+        Ok(Job { text, state, calls, notices })
+    }
+
+    /// Lowers a root. A refusal leaves the job as it was.
+    pub fn lower_root(&mut self, root: &[u8]) -> Result<Lowered<'_>, Refusal> {
+        let (calls, notices) = (self.calls.len(), self.notices.len());
+        let outcome = self.lower_with_room(root, calls, notices);
+        // the targets hold what the state says is filled, and no room behind it
+        let (filled, told) = raw::fills(&self.state)?;
+        self.calls.truncate(filled);
+        self.notices.truncate(told);
+        outcome?;
+        Ok(Lowered { calls: &self.calls[calls..], notices: &self.notices[notices..] })
+    }
+
+    // Asks, makes the room that the refusal names, and asks again: twice for the calls and the notices.
+    fn lower_with_room(
+        &mut self,
+        root: &[u8],
+        calls: usize,
+        notices: usize,
+    ) -> Result<(), Refusal> {
+        for _ in 0..2 {
+            match raw::root(self.text, &mut self.state, root, &mut self.calls, &mut self.notices) {
+                Err(Refusal::Space { needed }) => self.calls.resize(calls + needed, 0),
+                Err(Refusal::NoticeSpace { needed }) => self.notices.resize(notices + needed, 0),
+                outcome => return outcome,
+            }
+        }
+        raw::root(self.text, &mut self.state, root, &mut self.calls, &mut self.notices)
+    }
+
+    /// The record tape: the imports, requires and file name that the calls so far mention.
+    pub fn records(&self) -> Result<Vec<u8>, Refusal> {
+        let mut tape = vec![0; 32];
+        let size = match raw::records(self.text, &self.state, &mut tape) {
+            Err(Refusal::Space { needed }) => {
+                tape.resize(needed, 0);
+                raw::records(self.text, &self.state, &mut tape)?
+            }
+            outcome => outcome?,
+        };
+        tape.truncate(size);
+        Ok(tape)
+    }
+
+    /// The calls of all roots so far.
+    pub fn calls(&self) -> &[u8] {
+        &self.calls
+    }
+
+    /// The notices of all roots so far.
+    pub fn notices(&self) -> &[u8] {
+        &self.notices
+    }
+
+    /// The state, to be kept with the calls and notices for `Job::resume`.
+    pub fn state(&self) -> &[u8; STATE_SIZE] {
+        &self.state
+    }
+}

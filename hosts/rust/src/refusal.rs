@@ -1,0 +1,83 @@
+use std::error::Error;
+use std::fmt;
+
+/// Why an entry turned its input away. `at` is an offset: in the text for `NotUtf8` and `PragmaByte`, on the tape for all others.
+#[derive(Clone, Copy, Debug, PartialEq, Eq)]
+pub enum Refusal {
+    TooLong,
+    NotUtf8 { at: usize },
+    Command { at: usize },
+    Span { at: usize },
+    PragmaByte { at: usize },
+    Depth { at: usize },
+    Ampersand { at: usize },
+    Position { at: usize },
+    Bindings,
+    Space { needed: usize },
+    NoticeSpace { needed: usize },
+    Forged,
+}
+
+impl Refusal {
+    // What an entry's number and figure say.
+    pub(crate) fn told(number: u8, figure: usize) -> Result<(), Refusal> {
+        Err(match number {
+            0 => return Ok(()),
+            1 => Refusal::TooLong,
+            2 => Refusal::NotUtf8 { at: figure },
+            3 => Refusal::Command { at: figure },
+            4 => Refusal::Span { at: figure },
+            5 => Refusal::PragmaByte { at: figure },
+            6 => Refusal::Depth { at: figure },
+            7 => Refusal::Ampersand { at: figure },
+            8 => Refusal::Position { at: figure },
+            9 => Refusal::Bindings,
+            10 => Refusal::Space { needed: figure },
+            11 => Refusal::NoticeSpace { needed: figure },
+            _ => Refusal::Forged,
+        })
+    }
+
+    /// The number of the specification, 1 to 12.
+    pub fn number(self) -> u8 {
+        match self {
+            Refusal::TooLong => 1,
+            Refusal::NotUtf8 { .. } => 2,
+            Refusal::Command { .. } => 3,
+            Refusal::Span { .. } => 4,
+            Refusal::PragmaByte { .. } => 5,
+            Refusal::Depth { .. } => 6,
+            Refusal::Ampersand { .. } => 7,
+            Refusal::Position { .. } => 8,
+            Refusal::Bindings => 9,
+            Refusal::Space { .. } => 10,
+            Refusal::NoticeSpace { .. } => 11,
+            Refusal::Forged => 12,
+        }
+    }
+}
+
+impl fmt::Display for Refusal {
+    fn fmt(&self, f: &mut fmt::Formatter<'_>) -> fmt::Result {
+        match self {
+            Refusal::TooLong => write!(f, "the text or the tape is longer than 65,535 bytes"),
+            Refusal::NotUtf8 { at } => write!(f, "the text is not UTF-8: an ill-formed sequence begins at byte {at}"),
+            Refusal::Command { at } => write!(f, "the tape has a command or an operand that may not stand at byte {at}, or ends there"),
+            Refusal::Span { at } => {
+                write!(f, "the command at byte {at} of the tape has a span outside the text, one that cuts a character, or an empty name")
+            }
+            Refusal::PragmaByte { at } => write!(f, "the pragma in force has a character beyond ASCII at byte {at} of the text"),
+            Refusal::Depth { at } => write!(f, "elements and fragments are nested deeper than 64 levels at byte {at} of the tape"),
+            Refusal::Ampersand { at } => {
+                write!(f, "the command at byte {at} of the tape has an ampersand in a string or a text; entities must be decoded before")
+            }
+            Refusal::Position { at } => write!(f, "the command at byte {at} of the tape has a line or column of 4,294,967,295"),
+            Refusal::Bindings => write!(f, "the job needs more than 8 bindings"),
+            Refusal::Space { needed } => write!(f, "there is no room for the {needed} bytes to be written"),
+            Refusal::NoticeSpace { needed } => write!(f, "there is no room for the {needed} bytes of notices"),
+            Refusal::Forged => write!(f, "the state is not one that this job and this text can have"),
+        }
+    }
+}
+
+impl Error for Refusal {}

@@ -1,0 +1,123 @@
+// The specification's example, its refusals, and states that nobody made.
+use jsx_lowering::{Job, Refusal, Settings, Span};
+
+// <a/>, <b key/> and so on: an element at line 0, column 0, in a function
+fn root(rest: &[u8]) -> Vec<u8> {
+    let mut tape = vec![1, 0, 2, 3, 0x10, 0, 0, 0, 0, 0, 0, 0, 0];
+    tape.extend_from_slice(rest);
+    tape
+}
+
+const A: [u8; 7] = [0x20, 0, 0, 1, 0, 0x1e, 0x1f];
+const CALLS: [u8; 17] =
+    [0x80, 1, 0x81, 0x82, 0x9e, 0x8a, 0x8b, 0, 0, 1, 0, 0x8d, 0x9f, 0x96, 0, 0xa0, 1];
+
+fn settings() -> Settings {
+    Settings {
+        jsx_plugin: true,
+        throw_if_namespace: true,
+        pure: true,
+        module: true,
+        ..Settings::default()
+    }
+}
+
+fn open(text: &[u8]) -> Job<'_> {
+    Job::open(text, &settings().tape()).unwrap()
+}
+
+#[test]
+fn settings_as_a_tape() {
+    assert_eq!(settings().tape(), [0x61, 0xe1, 0]);
+    let span = Span { start: 1, len: 258 };
+    let all = Settings { import_source: Some(span), comments: vec![span], ..Settings::default() };
+    assert_eq!(all.tape(), [0x61, 0, 0, 0x64, 1, 0, 2, 1, 0x60, 1, 0, 2, 1]);
+}
+
+#[test]
+fn the_example() {
+    let mut job = open(b"a");
+    let lowered = job.lower_root(&root(&A)).unwrap();
+    assert_eq!((lowered.calls, lowered.notices), (&CALLS[..], &[][..]));
+    assert_eq!(job.records().unwrap(), [0xb0, 1, 0xb1, 2, 0]);
+}
+
+#[test]
+fn roots_in_turn_share_a_binding() {
+    let mut job = open(b"akey");
+    job.lower_root(&root(&A)).unwrap();
+    let keyed = root(&[0x20, 0, 0, 1, 0, 0x30, 1, 0, 3, 0, 0x40, 0x1e, 0x1f]);
+    assert_eq!(job.lower_root(&keyed).unwrap().notices, [0xc0, 1, 0, 3, 0]);
+    assert_eq!(job.calls()[..17], CALLS);
+    assert_eq!(job.notices(), [0xc0, 1, 0, 3, 0]);
+    assert_eq!(job.records().unwrap(), [0xb0, 1, 0xb1, 2, 0]);
+}
+
+#[test]
+fn a_refused_opening() {
+    let told = |text: &[u8], tape: &[u8]| Job::open(text, tape).unwrap_err();
+    assert_eq!(told(&[b'a'; 65536], &[0x61, 0, 0]), Refusal::TooLong);
+    assert_eq!(told(b"a\xff", &[0x61, 0, 0]), Refusal::NotUtf8 { at: 1 });
+    assert_eq!(told(b"a", &[0x61, 0, 1]), Refusal::Command { at: 0 });
+    assert_eq!(told(b"a", &[]), Refusal::Command { at: 0 });
+    assert_eq!(told(b"a", &[0x61, 8, 0, 0x62, 0, 0, 2, 0]), Refusal::Span { at: 3 });
+    assert_eq!(
+        told("ä".as_bytes(), &[0x61, 8, 0, 0x62, 0, 0, 2, 0]),
+        Refusal::PragmaByte { at: 0 }
+    );
+}
+
+#[test]
+fn a_refused_root_leaves_the_job() {
+    let mut job = open(b"a&");
+    job.lower_root(&root(&A)).unwrap();
+    let before = job.clone();
+    let ampersand = root(&[0x20, 0, 0, 1, 0, 0x1e, 0x50, 1, 0, 1, 0, 0x1f]);
+    assert_eq!(job.lower_root(&ampersand).unwrap_err(), Refusal::Ampersand { at: 19 });
+    assert_eq!(job.lower_root(&[]).unwrap_err(), Refusal::Command { at: 0 });
+    assert_eq!(
+        (job.state(), job.calls(), job.notices()),
+        (before.state(), before.calls(), before.notices())
+    );
+}
+
+#[test]
+fn a_job_taken_up_again() {
+    let mut job = open(b"a");
+    job.lower_root(&root(&A)).unwrap();
+    let mut again =
+        Job::resume(b"a", job.state(), job.calls().to_vec(), job.notices().to_vec()).unwrap();
+    assert_eq!(again.lower_root(&root(&A)).unwrap(), job.lower_root(&root(&A)).unwrap());
+    assert_eq!(again.state(), job.state());
+}
+
+#[test]
+fn forged_states() {
+    let mut job = open(b"a");
+    job.lower_root(&root(&A)).unwrap();
+    let resume =
+        |state: &[u8]| Job::resume(b"a", state, job.calls().to_vec(), job.notices().to_vec());
+    // too short, a mode that there is none of, an absent pragma with a span, another fill
+    for (place, byte) in [(27, 3), (2, 1), (86, 16)] {
+        let mut state = *job.state();
+        state[place] = byte;
+        assert_eq!(resume(&state).unwrap_err(), Refusal::Forged, "byte {place}");
+    }
+    assert_eq!(resume(&job.state()[1..]).unwrap_err(), Refusal::Forged);
+    // nine records, a binding out of turn: these are states, and no text bears them out
+    for (place, byte) in [(78, 9), (49, 1)] {
+        let mut state = *job.state();
+        state[place] = byte;
+        let mut forged = resume(&state).unwrap();
+        assert_eq!(forged.lower_root(&root(&A)).unwrap_err(), Refusal::Forged, "byte {place}");
+        assert_eq!(forged.records().unwrap_err(), Refusal::Forged, "byte {place}");
+        assert_eq!(*forged.state(), state);
+    }
+}
+
+#[test]
+fn refusals_in_words() {
+    let told = Job::open(b"a\xff", &[0x61, 0, 0]).unwrap_err();
+    assert_eq!(told.number(), 2);
+    assert_eq!(told.to_string(), "the text is not UTF-8: an ill-formed sequence begins at byte 1");
+}
