@@ -71,9 +71,10 @@ def main():
                         print("  other: ", other)
                 if len(ours or []) != len(theirs or []):
                     print("  lines:", len(ours or []), len(theirs or []))
-    print(", ".join(f"{number} {what}" for what, number in count.items()))
+    differ = count.pop("cases that differ", 0)
+    print(", ".join(f"{number} {what}" for what, number in count.items()) + f"; {differ} cases that differ")
     print("refusals by number:", ", ".join(f"{number}: {times}" for number, times in sorted(refusals.items(), key=lambda r: int(r[0]))))
-    sys.exit(1 if count["cases that differ"] else 0)
+    sys.exit(1 if differ else 0)
 
 
 if __name__ == "__main__":

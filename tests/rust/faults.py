@@ -1,15 +1,19 @@
 #!/usr/bin/env python3
-"""How sensitive the comparison is: python3 faults.py CASES [NUMBER...]
+"""How sensitive the comparison is: python3 faults.py CASES ANSWERS [NUMBER...]
 
-Puts one deliberate fault at a time into a copy of the Rust (a folder that is removed again), builds the oracle from it and runs
-it on the cases. A fault is seen if an answer changes or the run breaks off. OXC_SRC names the original, as for the build.
+Puts one deliberate fault at a time into a copy of the Rust (a folder that is removed again), builds the oracle from it and compares
+what it prints for the cases with ANSWERS, which are another program's, as that of crates/replay. A fault is seen if the two differ or
+the run breaks off. OXC_SRC names the original, as for the build.
 """
 
+import itertools
 import os
 import shutil
 import subprocess
 import sys
 import tempfile
+
+from compare import agrees, cases as answers_in
 
 HERE = os.path.dirname(os.path.abspath(__file__))
 IMPL, COMMENTS, SELF, SOURCE = "jsx/jsx_impl.rs", "jsx/comments.rs", "jsx/jsx_self.rs", "jsx/jsx_source.rs"
@@ -68,20 +72,30 @@ FAULTS = [
 ]
 
 
-def oracle(source, cases):
-    """What an oracle built from this source prints, or None if it breaks off."""
+def oracle(source, cases, printed):
+    """Writes what an oracle built from this source prints, and says whether it comes to an end."""
     environment = dict(os.environ, OXC_SRC=source, CARGO_TARGET_DIR=os.path.join(HERE, "target", "faults"))
     subprocess.run(["cargo", "build", "--quiet", "--offline", "-j1", "--release"], cwd=HERE, env=environment, check=True,
                    stderr=subprocess.PIPE)
     program = os.path.join(HERE, "target", "faults", "release", "oracle")
-    run = subprocess.run([program, cases, "--plain-fragments"], stdout=subprocess.PIPE, stderr=subprocess.DEVNULL)
-    return run.stdout if run.returncode == 0 else None
+    with open(printed, "wb") as out:
+        run = subprocess.run([program, cases, "--plain-fragments", "--notices", "1024"], stdout=out, stderr=subprocess.DEVNULL)
+    return run.returncode == 0
+
+
+def differing(printed, answers):
+    """In how many cases the two differ."""
+    pairs = itertools.zip_longest(answers_in(printed), answers_in(answers), fillvalue=[])
+    return sum(len(ours) != len(theirs) or not all(map(agrees, ours, theirs)) for ours, theirs in pairs)
 
 
 def main():
-    cases, chosen = sys.argv[1], set(map(int, sys.argv[2:]))
+    cases, answers, chosen = *sys.argv[1:3], set(map(int, sys.argv[3:]))
     source = os.environ["OXC_SRC"]
-    expected = oracle(source, cases)
+    work = tempfile.TemporaryDirectory()
+    printed = os.path.join(work.name, "printed")
+    if not oracle(source, cases, printed) or differing(printed, answers):
+        sys.exit("the Rust without a fault differs already")
     unseen = []
     for number, (what, file, edits) in enumerate(FAULTS):
         if chosen and number not in chosen:
@@ -102,15 +116,13 @@ def main():
             with open(path, "w") as handle:
                 handle.write(text)
             try:
-                answer = oracle(copy, cases)
+                ended = oracle(copy, cases, printed)
             except subprocess.CalledProcessError as error:
                 sys.exit(f"{number} {what}: doesn't build\n{error.stderr.decode()}")
-        if answer == expected:
+        how_many = differing(printed, answers) if ended else 0
+        if ended and not how_many:
             unseen.append(what)
-            print(f"{number} {what}: NOT SEEN", flush=True)
-        else:
-            how = "breaks off" if answer is None else "answers differ"
-            print(f"{number} {what}: {how}", flush=True)
+        print(f"{number} {what}:", "breaks off" if not ended else f"{how_many} cases differ" if how_many else "NOT SEEN", flush=True)
     count = len(chosen) if chosen else len(FAULTS)
     print(f"{count} faults, {count - len(unseen)} seen")
     sys.exit(1 if unseen else 0)

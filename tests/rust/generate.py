@@ -371,9 +371,9 @@ def limits(most):
     # exactly full: 12 + 2 + 4 bytes around the children's 12 each
     for count in range(5458, 5463):
         yield job, b"akey", [half(count), half(0), half(0)][:most]
-    # a text of a hundred lines is 601 bytes of calls each time: one root fits, and a second one fills the target
+    # a text of a hundred lines is 601 bytes of calls each time: too long by itself, exactly full with another root, too long behind two
     lines = lambda count: front + b"\x11" + z + (b"\x50" + pair(0, 199)) * count + b"\x1f"
-    for roots in ([lines(110), half(0)], [lines(109), half(0), half(0)]):
+    for roots in ([lines(110), half(0)], [lines(109), half(0), half(0)], [half(0), half(0), lines(109), half(0)]):
         yield job, b"x\n" * 99 + b"x", roots[:most]
     # notices, for a target of 1,024 bytes: one too many, none too many, exactly full
     keys = lambda count: front + b"\x10" + z + b"\x20" + pair(0, 1) + (b"\x30" + pair(1, 3) + b"\x40") * count + b"\x1e\x1f"

@@ -3,17 +3,21 @@
 
 CASES as generate.py wrote them, ORACLE and OTHER two programs' answers to them; LIST gets the cases that were chosen, ANSWERS their
 answers. Cases in which the two differ are an error. What a case covers: each command of its tapes under each kind of settings, each pair of
-neighbouring commands on the call tape, each refusal with the command it speaks of, each setting, each form of the record tape. Short
-cases are taken first. The settings, calls, notices and records are the Rust's; the numbers and figures of refusals, which the Rust doesn't have, are
-OTHER's.
+neighbouring commands on the call tape, attributes alone and in pairs, children by their number, lines of texts by what stands at their ends, pragmas of
+comments by what stands around them, pragmas by their parts, each refusal with the command it speaks of, each setting, each form of the record tape. Short cases are
+taken first. The settings, calls, notices and records are the Rust's; the numbers and figures of refusals, which the Rust doesn't have, are OTHER's.
 """
 
 import heapq
+import itertools
 import re
 import sys
 
 from cases import pack, unpack
 from compare import agrees, cases
+from model import ENDS, RESERVED, WHITE, read_root
+
+WHITE = "".join(WHITE)
 
 # operand bytes of the commands of call tapes
 CALLS = {0x80: 1, 0x83: 4, 0x86: 2, 0x87: 2, 0x89: 2, 0x8B: 4, 0x94: 2, 0x96: 1, 0x97: 4, 0x98: 1, 0x99: 1, 0x9B: 1, 0x9C: 2,
@@ -34,15 +38,82 @@ def commands(tape, operands):
     return found
 
 
+def attribute_kind(attribute, text):
+    code, first = attribute[:2]
+    if code == 0x33:
+        names = [text[each[1][0]:sum(each[1])] for each in attribute[2] if len(each) == 2]
+        return code, len(attribute[2]) > 0, b"__proto__" in names
+    if code != 0x30:
+        return (code,)
+    return code, text[first[0][0]:sum(first[0])] == b"key", attribute[2][0] == 0x40
+
+
+def in_lines(letters):
+    """What a text's lines are like: which one it is, and what stands at both ends."""
+    lines = re.split("[" + "".join(ENDS) + "]", letters)
+    for number, line in enumerate(lines):
+        place = "only" if len(lines) == 1 else "first" if number == 0 else "last" if number == len(lines) - 1 else "inner"
+        yield "line", place, line.strip(WHITE) == "", line[:1] in WHITE, line[-1:] in WHITE
+        for letter in line[:1], line[-1:]:
+            yield "at an end", letter if letter.isspace() or not letter.isprintable() else None
+    for letter in letters:
+        if letter in ENDS:
+            yield "line end", letter
+
+
+def in_tree(node, text, mode, plugins, self_allowed):
+    name, attributes, children, _ = node
+    kinds = [attribute_kind(attribute, text) for attribute in attributes]
+    if len(kinds) == 0:
+        yield "alone", mode, plugins, self_allowed, name is None
+    if len(kinds) == 1:
+        yield "alone", mode, plugins, kinds[0]
+    for pair in zip(kinds, kinds[1:]):
+        yield "pair", mode[0], pair
+    for attribute in attributes:
+        if attribute[0] in (0x30, 0x31) and attribute[2][0] in (0x10, 0x11):
+            yield from in_tree(attribute[2][1], text, mode, plugins, self_allowed)
+    yield "children", mode, name is None, min(len(children), 2), 0x51 in [child[0] for child in children]
+    for child in children:
+        if child[0] in (0x10, 0x11):
+            yield from in_tree(child[1], text, mode, plugins, self_allowed)
+        elif child[0] == 0x50:
+            yield from in_lines(text[child[1][0]:sum(child[1])].decode())
+
+
+def in_comments(job, text, pair):
+    """What stands before, in and behind the pragmas of an opening tape's comments."""
+    for at in range(3, len(job), 5):
+        start, size = (int.from_bytes(job[at + i:at + i + 2], "little") for i in (1, 3))
+        comment = text[start:start + size] if job[at] == 0x60 else b""
+        for place in re.finditer(b"@", comment):
+            sign = re.compile(rb"@(jsx)?([^ \t]*)([ \t]*)([^\t-\r ]*)").match(comment, place.start())
+            before, behind = comment[:sign.start()][-1:], comment[sign.end():][:1]
+            word = sign[2] if sign[2] in (b"", b"Frag", b"ImportSource", b"Runtime") else None
+            yield "comment", sign[1], before if before in b" \t\r\n*@" else None
+            yield "keyword", pair, word, sign[4] == b""
+            yield "behind", behind, comment[sign.end() + 1:][:1] == b"@"
+
+
+def pragma_shape(pragma):
+    """A pragma by the parts between its dots."""
+    kinds = ((r"", "empty"), (r"this|import|meta", None), ("|".join(RESERVED), "reserved"), (r"[A-Za-z$_][\w$]*", "name"), (r"\d.*", "digit"))
+    for part in pragma.split("."):
+        kind = next((kind or part for expression, kind in kinds if re.fullmatch(expression, part, re.A)), "other")
+        yield kind
+
+
 def spoken_of(number, figure, text, tape, known):
     """What a refusal speaks of: too long a text or tape, the kind of a byte of the text, a command that there is, another byte, the tape's end."""
     if number == "1":
         return len(text) > figure
     if number in ("2", "5"):
         return text[figure] >> 4
-    if number in ("9", "10", "11"):
-        return None
-    return "end" if figure >= len(tape) else tape[figure] if tape[figure] in known else "other"
+    if figure >= len(tape):
+        return "end"
+    if number == "4" and tape[figure] != 0x36:
+        return tape[figure], tape[figure + 3:figure + 5] == b"\x00\x00"
+    return tape[figure] if tape[figure] in known else "other"
 
 
 def covered(job, text, roots, answer):
@@ -52,21 +123,33 @@ def covered(job, text, roots, answer):
         found.add(("opening", words[2], spoken_of(words[2], int(words[3]), text, job, OPENINGS)))
         return found
     shown = [word[:1] if word.startswith("'") else word for word in words[1:]]
+    for word, form in zip(words, words[1:]):
+        if word.startswith("'") and "." in form:
+            found.add(("pragma", form.split(".")[0], *itertools.islice(pragma_shape(bytes.fromhex(word[1:]).decode()), 3)))
     mode = (shown[0], shown[shown.index("development") + 1])
+    plugins = tuple(shown[shown.index(word) + 1] for word in ("self", "source"))
+    found.update(in_comments(job, text, "1" in (shown[shown.index("plugin") + 1], mode[1])))
     found.update(("setting", mode, number, word) for number, word in enumerate(shown))
-    root = None
+    root, fills = None, {"calls": 0, "notices": 0}
     for line in answer[2:]:
         kind, *rest = line.split(" ")
+        if kind in fills:
+            fills[kind] += len(rest)
         if kind == "root":
             root = roots[int(rest[0])]
-            if rest[1] == "refused":
+            if rest[1] == "refused" and rest[2] in ("10", "11"):
+                found.add(("root", rest[2], fills["calls" if rest[2] == "10" else "notices"] > 0))
+            elif rest[1] == "refused":
                 found.add(("root", rest[2], spoken_of(rest[2], int(rest[3]), text, root, ROOTS)))
         elif kind == "calls":
+            self_allowed, node = read_root(root, text)
+            found.update(in_tree(node, text, mode, plugins, self_allowed))
             found.update(("root command", mode, command) for command in commands(root, ROOTS))
             out = commands(bytes.fromhex("".join(rest)), CALLS)
             found.update(("call command", mode, command) for command in out)
             found.update(("neighbours", mode[0], pair) for pair in zip(out, out[1:]))
         elif kind == "notices":
+            found.add(("room left", fills[kind] < 1024))
             found.add(("notices", tuple(re.findall("c[01]", line))[:3]))
         elif kind == "records":
             found.add(("records", line))

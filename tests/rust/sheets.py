@@ -1,7 +1,7 @@
 #!/usr/bin/env python3
-"""The specification's "Sheets to try" as cases with what must come out: python3 sheets.py FILE, then python3 sheets.py --check ANSWERS
+"""The specification's "Sheets to try" as cases with what must come out: python3 sheets.py FILE, then python3 sheets.py --check ANSWERS..
 
-The first writes the cases, the second looks through what oracle (with --plain-fragments) or another program printed for them.
+The first writes the cases, the second looks through what oracle (with --plain-fragments) and other programs printed for them.
 """
 
 import sys
@@ -63,8 +63,15 @@ def main():
             for _, job, text, root, _ in SHEETS:
                 file.write(pack(bytes.fromhex(job), text, [bytes.fromhex(root)] if root else []))
         return
-    with open(sys.argv[2]) as file:
-        answers = [answer.split("\n")[1:] for answer in file.read().split("case ")[1:]]
+    wrong = 0
+    for file in sys.argv[2:]:
+        with open(file) as answers:
+            wrong += check([answer.split("\n")[1:] for answer in answers.read().split("case ")[1:]])
+    print(f"{len(SHEETS)} sheets, {wrong} wrong lines")
+    sys.exit(1 if wrong else 0)
+
+
+def check(answers):
     wrong = 0
     for (name, _, _, _, expected), answer in zip(SHEETS, answers, strict=True):
         for line in expected:
@@ -72,8 +79,7 @@ def main():
                     each == line or line.endswith("refused") and each.startswith(line) for each in answer)):
                 wrong += 1
                 print(f"{name}: no line '{line}' in", *answer, sep="\n  ")
-    print(f"{len(SHEETS)} sheets, {wrong} wrong lines")
-    sys.exit(1 if wrong else 0)
+    return wrong
 
 
 if __name__ == "__main__":

@@ -2,9 +2,9 @@
 // text, the number of roots, and the roots; every length and the number are four bytes, the lowest first. What comes out of each is written in
 // the lines that tests/rust/README.md describes.
 //
-// The file `stdin` is a list that tests/rust/sample.py chose from a large one, so that every command, setting and refusal is there. The file
-// `stdout` is not what this program wrote: settings, calls, notices and records in it are the Rust's, as it answered when the list was made, and the
-// numbers and figures of refusals are those of a reading of the specification in Python.
+// The file `stdin` is a list that tests/rust/sample.py chose from a large one, so that every command and setting is there, and every refusal that a
+// series can come to. The file `stdout` is not what this program wrote: settings, calls, notices and records in it are the Rust's, as it answered when
+// the list was made, and the numbers and figures of refusals are those of a reading of the specification in Python.
 mod openings;
 mod reading;
 mod showing;

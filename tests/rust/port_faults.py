@@ -1,0 +1,135 @@
+#!/usr/bin/env python3
+"""Puts one deliberate fault at a time into a copy of the port: python3 port_faults.py [NUMBERS]
+
+The copy is run by `rt try`, which compiles it without proof, on crates/replay/stdin, and what it writes is held to crates/replay/stdout. (One case is added, a
+series that fills the target for calls exactly, with the model's answer: it is too long for the list. `rt try` takes no answers of more than a megabyte.) A
+fault is seen if what is written differs or the program breaks off. NUMBERS choose some of the faults. Needs the Rattle kit and no Rust.
+"""
+
+import pathlib
+import shutil
+import subprocess
+import sys
+import tempfile
+
+from cases import pack, unpack
+from generate import limits
+from model import run
+
+TOP = pathlib.Path(__file__).resolve().parent.parent.parent
+RIGHT = "ok: the native program at -O3 ended and wrote what is expected"
+JSX, EMIT, SELF, PEN = "jsx/src/jsx_impl.rt", "emit/src/jsx_impl.rt", "emit/src/jsx_self.rt", "emit/src/pen.rt"
+LINES, ROOTS, CHARS, LOWERING = "jsx_text/src/lib.rt", "roots/src/check.rt", "text/src/chars.rt", "lowering/src/lib.rt"
+COMMENTS, SETTINGS, OPTIONS, PRAGMA = "settings/src/comments.rt", "settings/src/jsx_impl.rt", "settings/src/options.rt", "pragma/src/lib.rt"
+GROUPS, RECORDS, FINDING, NOTICES = "store/src/groups.rt", "store/src/record_tape.rt", "store/src/finding.rt", "emit/src/diagnostics.rt"
+
+FAULTS = [
+    ("a sole spread child is bare", JSX, "    if spread { 1 } else { 0 }", "    if spread { 0 } else { 0 }"),
+    ("the first key counts", JSX, "    if key == 0 {\n        return before;", "    if (key == 0) | (before != 0) {\n        return before;"),
+    ("a lone spread with the source plugin", JSX, "    if settings.options.flags.source_plugin {\n        return Lone::Object;\n    }\n", ""),
+    ("a lone spread with the self plugin", JSX, "    if settings.options.flags.self_plugin {\n        return Lone::Object;\n    }\n", ""),
+    ("a lone literal with __proto__", JSX, "            if proto.found {\n                return Lone::Object;\n            }\n", ""),
+    ("self before source in automatic calls", JSX,
+     "    let sourced = source_output(settings, calls, counted, place);\n    let added = self_output(settings, allowed, calls, sourced);",
+     "    let sourced = self_output(settings, allowed, calls, counted);\n    let added = source_output(settings, calls, sourced, place);"),
+    ("source before self in classic calls", JSX,
+     "    let added = self_output(settings, allowed, calls, inside);\n    let sourced = source_output(settings, calls, added, place);",
+     "    let added = source_output(settings, calls, inside, place);\n    let sourced = self_output(settings, allowed, calls, added);"),
+    ("a key with an empty container has no value", JSX, "        ValueCommand::Empty => true,", "        ValueCommand::Empty => false,"),
+    ("an empty container is a child", JSX,
+     "        ChildCommand::Empty => Items {\n            pen: pen,\n            used: 1,\n            last: false,\n            count: 0,",
+     "        ChildCommand::Empty => Items {\n            pen: pen,\n            used: 1,\n            last: false,\n            count: 1,"),
+    ("a literal's spread does not count before a key", JSX, "AttributeCommand::Literal(_) => Front::Spread(3 +", "AttributeCommand::Literal(_) => Front::Other(3 +"),
+    ("a classic call without property has an object", JSX, "    if has_more(settings, allowed, props.some) {", "    if true | has_more(settings, allowed, props.some) {"),
+    ("no void 0 for fragments", JSX, "    let keyed = no_key(settings, calls, ended);\n    let counted", "    let keyed = ended;\n    let counted"),
+    ("the callee's binding before the children", JSX, "    let begun = put_byte(calls, pen, 0x80, 1);\n    let object = put_bare(calls, begun, 0x81);\n    let props",
+     "    let early = closing(settings, calls, pen, automatic_name(settings, 0));\n    let bound = early.store;\n    let mut first = pen;\n    first.store = bound;\n"
+     "    let begun = put_byte(calls, first, 0x80, 1);\n    let object = put_bare(calls, begun, 0x81);\n    let props"),
+    ("jsxs from one child on", EMIT, "    if 2 <= count { 3 } else { 2 }", "    if 1 <= count { 3 } else { 2 }"),
+    ("static children from one on", EMIT, "    if 2 <= count {\n        return put_bare(calls, pen, 0x90);", "    if 1 <= count {\n        return put_bare(calls, pen, 0x90);"),
+    ("createElement from the runtime source", EMIT, "    if name == 1 { 0 } else { 1 }", "    if name == 1 { 1 } else { 1 }"),
+    ("a hyphen is no matter", EMIT, "find_byte(name, 0x2d)", "find_byte(name, 0x2f)"),
+    ("__proto counts as __proto__", EMIT, 'b"__proto__")', 'b"__prot")'),
+    ("an empty piece is written", EMIT, "    if span.len == 0 {\n        return pen;\n    }\n", ""),
+    ("namespaced tags are never noticed", EMIT, "            if settings.options.flags.throw_if_namespace {", "            if false & settings.options.flags.throw_if_namespace {"),
+    ("the names of a notice are swapped", NOTICES, "put_span(notices, at, namespace);", "put_span(notices, at, name);"),
+    ("a class without superclass forbids this", SELF, "    heritage != 2\n", "    heritage == 0\n"),
+    ("an outer constructor decides", SELF, "inside = inside | (!known & (kind == 2));", "inside = inside | (kind == 2);"),
+    ("the column counts from 0", PEN, "wrapping_add_u32(place.column, 1)", "wrapping_add_u32(place.column, 0)"),
+    ("a run of letters takes the spaces behind it", LINES, "    while s[to - 1] == 0x20 {\n        to -= 1;\n    }\n", ""),
+    ("the first line loses its front", LINES, "    let mut first_non_whitespace = 0;", "    let mut first_non_whitespace = chars.len();"),
+    ("blank lines stay", LINES, "                if first_non_whitespace < last_non_whitespace {", "                if true {"),
+    ("lines join without a space", LINES, "    if later {\n        return SPACE;\n    }\n    STRING_BEGIN", "    if later {\n        return PIECE;\n    }\n    STRING_BEGIN"),
+    ("U+2029 ends no line", CHARS, " | (code == 0x2029)", ""),
+    ("U+FEFF is no white space", CHARS, " | (code == 0xfeff)", ""),
+    ("U+0085 is white space", CHARS, "    (code == 0x09) | (code == 0x0b)", "    (code == 0x09) | (code == 0x85) | (code == 0x0b)"),
+    ("a 65th level", ROOTS, "    if 64 <= depth {", "    if 65 <= depth {"),
+    ("an ampersand passes", ROOTS, "find_byte(part(text, span), 0x26)", "find_byte(part(text, span), 0x00)"),
+    ("the greatest column passes", ROOTS, "    if place.column == 0xffff_ffff {", "    if place.column == 0xffff_fffe {"),
+    ("an empty name passes", ROOTS, "        Bounds::Empty => Scan::Bad(Fault::EmptyName, 0),", "        Bounds::Empty => Scan::Good(n),"),
+    ("a star before @ doesn't count", COMMENTS, " | (b == b'*')", ""),
+    ("VT doesn't end a value", COMMENTS, "((0x09 <= b) & (b <= 0x0d))", "((0x09 <= b) & (b <= 0x0a)) | (b == 0x0c) | (b == 0x0d)"),
+    ("an unknown keyword ends the search", COMMENTS, "        let Keyword::Known(kind) = keyword_of(word) else {\n            continue 'signs;",
+     "        let Keyword::Known(kind) = keyword_of(word) else {\n            return Search::Nothing;"),
+    ("the JSX pair is set always", COMMENTS, "let pair = flags.jsx_plugin | flags.development;", "let pair = true;"),
+    ("a rejected @ takes the next byte along", COMMENTS, "        if !begins_jsx(comment, sign) {\n", "        if !begins_jsx(comment, sign) {\n            from = sign + 2;\n"),
+    ("the byte behind a value stays", COMMENTS, "        from = end + 1;\n    }", "        from = end;\n    }"),
+    ("pure where only one of the two is absent", SETTINGS, "(is_absent(import_source) & is_absent(pragma))", "(is_absent(import_source) | is_absent(pragma))"),
+    ("development doesn't turn on the source plugin", OPTIONS, "        g.source_plugin = true;\n", ""),
+    ("reserved roots are in order", PRAGMA, "    if is_reserved_keyword(root) {\n        return default_form();\n    }\n", ""),
+    ("import with any second part", PRAGMA, '    if same(&behind[1..end], b"meta") {', '    if true | same(&behind[1..end], b"meta") {'),
+    ("a digit begins a name", PRAGMA, "    if !is_identifier_start(w[0]) {", "    if !is_identifier_part(w[0]) {"),
+    ("source 0 isn't put in front", GROUPS, "with_group(groups, source, source == 0)", "with_group(groups, source, false)"),
+    ("the file name within a script's body in classic", RECORDS, "        Mode::Classic => 0,", "        Mode::Classic => 1,"),
+    ("the file name is bound anew", FINDING, "            Import::FileName => true,", "            Import::FileName => false,"),
+    ("the room for notices is not looked at", LOWERING, "    if notice_room - state.notices < pen.notices {", "    if notice_room < pen.notices {"),
+    ("a target can't be filled to the end", LOWERING, "    if call_room - state.calls < pen.calls {", "    if call_room - state.calls <= pen.calls {"),
+]
+
+
+def copied(folder):
+    names = [line.split(":")[0] for line in (TOP / "crates.txt").read_text().split("\n") if ":" in line and line[0] != "#"]
+    for name in names:
+        shutil.copytree(TOP / "crates" / name / "src", folder / "crates" / name / "src")
+    shutil.copy(TOP / "crates.txt", folder / "crates.txt")
+    listed, answers = (TOP / "crates/replay/stdin").read_bytes(), (TOP / "crates/replay/stdout").read_text()
+    full = next(case for case in limits(3) if len(case[1]) == 199 and len(case[2][0]) > len(case[2][1]) and len(case[2]) == 3)
+    lines = [f"case {len(list(unpack(listed)))}"]
+    run(*full, lines.append)
+    (folder / "crates/replay/stdin").write_bytes(listed + pack(*full))
+    (folder / "crates/replay/stdout").write_text(answers + "".join(line + "\n" for line in lines))
+
+
+def tried(folder):
+    """Whether the compiled program writes what it should. The interpreter, which `rt try` runs too, breaks off at a number of steps."""
+    try_it = subprocess.run(["rt", "try", "replay"], cwd=folder, stdout=subprocess.PIPE, stderr=subprocess.STDOUT, text=True, errors="replace")
+    if "native program" not in try_it.stdout:
+        sys.exit(try_it.stdout)
+    return RIGHT in try_it.stdout
+
+
+def main():
+    chosen = set(map(int, sys.argv[1:])) or set(range(len(FAULTS)))
+    unseen = 0
+    with tempfile.TemporaryDirectory() as name:
+        folder = pathlib.Path(name)
+        copied(folder)
+        if not tried(folder):
+            sys.exit("the port without a fault differs already")
+        for number in sorted(chosen):
+            what, file, old, new = FAULTS[number]
+            path = folder / "crates" / file
+            right = path.read_text()
+            if right.count(old) != 1:
+                sys.exit(f"{number} {what}: the text to change occurs {right.count(old)} times")
+            path.write_text(right.replace(old, new))
+            is_right = tried(folder)
+            path.write_text(right)
+            unseen += is_right
+            print(f"{number} {what}: {'NOT SEEN' if is_right else 'seen'}", flush=True)
+    print(f"{len(chosen)} faults, {len(chosen) - unseen} seen")
+    sys.exit(1 if unseen else 0)
+
+
+if __name__ == "__main__":
+    main()
