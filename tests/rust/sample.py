@@ -91,7 +91,7 @@ def in_comments(job, text, pair):
             before, behind = comment[:sign.start()][-1:], comment[sign.end():][:1]
             word = sign[2] if sign[2] in (b"", b"Frag", b"ImportSource", b"Runtime") else None
             yield "comment", sign[1], before if before in b" \t\r\n*@" else None
-            yield "keyword", pair, word, sign[4] == b""
+            yield "keyword", pair, word, sign[4] == b"", b"@jsx" in comment[sign.end():]
             yield "behind", behind, comment[sign.end() + 1:][:1] == b"@"
 
 
