@@ -2,7 +2,9 @@
 --     weight                        the bytes of an output, calls and notices together
 --     calls-weigh, notices-weigh    each of the two is no more than that
 --     sizeNode, ..                  the bytes of a tree on its tape
---     node-weighs                   a tree's output weighs at most 400,000 times its size, over a text of at most 65,535 bytes
+--     pricedNode, ..                what the texts of a tree come to, each at its price
+--     node-weighs-by-texts          a tree's output weighs at most four times its size, and six times the lengths of its texts
+--     node-weighs                   or 400,000 times its size, over a text of at most 65,535 bytes
 -- Assumes nothing.
 use mathlib.Core.Path.{_≡_, refl, sym, ap, _∙_}
 use mathlib.Core.Bool.{Bool, true, false, cond, not, _&&_, _||_}
@@ -118,11 +120,11 @@ kept-few s [] = omega arith
 kept-few s (l ∷ []) = omega arith
 kept-few s (l ∷ m ∷ ms) = omega (arith, spans-few (trimBack l ∷ laterLines (m ∷ ms)), later-length (m ∷ ms))
 
-text-few : (text : List ℕ) (s : Span) → length (jsxText text s) ≤ length text + 2
-unfolding jsxText partOf
+text-few : (text : List ℕ) (s : Span) → length (jsxText text s) ≤ length (partOf text s) + 2
+unfolding jsxText
 text-few text s =
     let cs = charsFrom 0 (s .start) (partOf text s) in
-    omega (arith, kept-few s (linesOf cs), lines-few cs, chars-few 0 (s .start) (partOf text s), length-take (s .len) (drop (s .start) text), length-drop (s .start) text)
+    omega (arith, kept-few s (linesOf cs), lines-few cs, chars-few 0 (s .start) (partOf text s))
 
 piece-weighs : (s : Span) → weight (piece s) ≤ 5
 unfolding weight
@@ -164,14 +166,14 @@ sizeName (tree.identifier s ms) = 5 + 5 * length ms
 sizeName (tree.this ms) = 1 + 5 * length ms
 sizeName (tree.namespaced s r) = 9
 
-name-weighs : (c : Context) (n : Name) → weight (lowerName c n) ≤ 22 * sizeName n
+name-weighs : (c : Context) (n : Name) → weight (lowerName c n) ≤ 4 * sizeName n
 unfolding lowerName weight sizeName
 name-weighs c (tree.plain s) = omega (arith, quoted-weighs (piece s), piece-weighs s)
 name-weighs c (tree.identifier s ms) = omega (arith, members-weigh ms)
 name-weighs c (tree.this ms) = omega (arith, members-weigh ms)
 name-weighs c (tree.namespaced s r) = go (c .settings .options .flags .«throw_if_namespace»)
   where
-    go : (b : Bool) → weight (cond b (notify (namespacedTag s r) ∷ []) [] ++ colonized s r) ≤ 22 * 9
+    go : (b : Bool) → weight (cond b (notify (namespacedTag s r) ∷ []) [] ++ colonized s r) ≤ 4 * 9
     go true = omega (arith, colonized-weighs s r)
     go false = omega (arith, colonized-weighs s r)
 
@@ -294,17 +296,44 @@ unfoldable mutual
   sizeChildren (spreadChild e k) = 3 + sizeChildren k
   sizeChildren (nodeChild n k) = sizeNode n + sizeChildren k
 
--- a text of 65,535 bytes has 65,537 lines at the most, of six bytes each, and a string's two ends
-module _ (c : Context) (short : length (c .text) ≤ 65535) where
-  text-weighs : (s : Span) → weight (lowerText (jsxText (c .text) s)) ≤ 400000
-  text-weighs s = omega (arith, lines-weigh (jsxText (c .text) s), text-few (c .text) s)
+-- ---- what the texts of a tree come to, each at its price
 
+module _ (price : Span → ℕ) where
+  unfoldable mutual
+    pub pricedNode : Node → ℕ
+    pricedNode (element p n a k) = pricedAttributes a + pricedChildren k
+    pricedNode (fragment p k) = pricedChildren k
+
+    pub pricedAttributes : Attributes → ℕ
+    pricedAttributes noAttributes = 0
+    pricedAttributes (attribute s v a) = pricedValue v + pricedAttributes a
+    pricedAttributes (namespacedAttribute s r v a) = pricedValue v + pricedAttributes a
+    pricedAttributes (spread e a) = pricedAttributes a
+    pricedAttributes (literal e ps a) = pricedAttributes a
+
+    pub pricedValue : Value → ℕ
+    pricedValue absent = 0
+    pricedValue (string s) = 0
+    pricedValue (expression e) = 0
+    pricedValue empty = 0
+    pricedValue (nodeValue n) = pricedNode n
+
+    pub pricedChildren : Children → ℕ
+    pricedChildren noChildren = 0
+    pricedChildren (textChild s k) = price s + pricedChildren k
+    pricedChildren (expressionChild e k) = pricedChildren k
+    pricedChildren (emptyChild k) = pricedChildren k
+    pricedChildren (spreadChild e k) = pricedChildren k
+    pricedChildren (nodeChild n k) = pricedNode n + pricedChildren k
+
+-- the output of a tree is four bytes for each of its own and the price of its texts, where a text that costs no more than its price is given twenty bytes
+module _ (c : Context) (price : Span → ℕ) (text-weighs : (s : Span) → weight (lowerText (jsxText (c .text) s)) ≤ 20 + price s) where
   mutual
-    unfolding lowerNode lowerAttributes lowerKey lowerValue lowerChildren weight sizeNode sizeAttributes sizeValue sizeChildren
+    unfolding lowerNode lowerAttributes lowerKey lowerValue lowerChildren weight sizeNode sizeAttributes sizeValue sizeChildren pricedNode pricedAttributes pricedValue pricedChildren
 
-    pub node-weighs : (n : Node) → weight (lowerNode c n) ≤ 400000 * sizeNode n
-    node-weighs (element p n a k) =
-        either-weighs (classicElement c a) _ _ (400000 * sizeNode (element p n a k))
+    pub tree-weighs : (n : Node) → weight (lowerNode c n) ≤ 4 * sizeNode n + pricedNode price n
+    tree-weighs (element p n a k) =
+        either-weighs (classicElement c a) _ _ (4 * sizeNode (element p n a k) + pricedNode price (element p n a k))
         (omega (
           arith,
           classic-weighs c (loneSpreadOr c a (objectOf (lowerAttributes c true a ++ selfOutput c ++ sourceOutput c p))) (lowerChildren c k) (lowerName c n),
@@ -329,8 +358,8 @@ module _ (c : Context) (short : length (c .text) ≤ 65535) where
           no-key-weighs c,
           children-weighs k,
         ))
-    node-weighs (fragment p k) =
-        either-weighs (isClassic (c .settings .mode)) _ _ (400000 * sizeNode (fragment p k))
+    tree-weighs (fragment p k) =
+        either-weighs (isClassic (c .settings .mode)) _ _ (4 * sizeNode (fragment p k) + pricedNode price (fragment p k))
         (omega (
           arith,
           classic-weighs c (objectOf []) (lowerChildren c k) (fragmentTag (c .settings .mode)),
@@ -346,10 +375,10 @@ module _ (c : Context) (short : length (c .text) ≤ 65535) where
           children-weighs k,
         ))
 
-    attributes-weigh : (a : Attributes) → weight (lowerAttributes c true a) ≤ 400000 * sizeAttributes a
+    attributes-weigh : (a : Attributes) → weight (lowerAttributes c true a) ≤ 4 * sizeAttributes a + pricedAttributes price a
     attributes-weigh noAttributes = omega arith
     attributes-weigh (attribute s v a) =
-        either-weighs (isKey c s && hasValue v && not true) (lowerAttributes c true a) _ (400000 * sizeAttributes (attribute s v a))
+        either-weighs (isKey c s && hasValue v && not true) (lowerAttributes c true a) _ (4 * sizeAttributes (attribute s v a) + pricedAttributes price (attribute s v a))
         (omega (arith, attributes-weigh a))
         (simp weight-append (omega (arith, notice-weighs c s v, attribute-name-weighs c s, value-weighs v, attributes-weigh a)))
     attributes-weigh (namespacedAttribute s r v a) =
@@ -358,15 +387,15 @@ module _ (c : Context) (short : length (c .text) ≤ 65535) where
     attributes-weigh (literal e ps a) = simp weight-append (omega (arith, literal-weighs c e ps, attributes-weigh a))
 
     -- the value of a key is written once, among the attributes or behind the children
-    keyed-weigh : (a : Attributes) (other : List Output) → weight (lowerAttributes c false a) + weight (lowerKey c a other) ≤ 400000 * sizeAttributes a + weight other
+    keyed-weigh : (a : Attributes) (other : List Output) → weight (lowerAttributes c false a) + weight (lowerKey c a other) ≤ 4 * sizeAttributes a + pricedAttributes price a + weight other
     keyed-weigh noAttributes other = omega arith
     keyed-weigh (attribute s v a) other = go (isKey c s) (hasValue v) (value-weighs v) (keyed-weigh a)
       where
-        go : (k g : Bool) → weight (lowerValue c v) ≤ 400000 * sizeValue v
-            → ((o : List Output) → weight (lowerAttributes c false a) + weight (lowerKey c a o) ≤ 400000 * sizeAttributes a + weight o)
+        go : (k g : Bool) → weight (lowerValue c v) ≤ 4 * sizeValue v + pricedValue price v
+            → ((o : List Output) → weight (lowerAttributes c false a) + weight (lowerKey c a o) ≤ 4 * sizeAttributes a + pricedAttributes price a + weight o)
             → weight (cond (k && g && not false) (lowerAttributes c false a) (keyNotice c s v ++ attributeName c s ++ lowerValue c v ++ lowerAttributes c false a))
             + weight (lowerKey c a (cond (k && g) (put call.key ++ lowerValue c v) other))
-            ≤ 400000 * (5 + sizeValue v + sizeAttributes a) + weight other
+            ≤ 4 * (5 + sizeValue v + sizeAttributes a) + (pricedValue price v + pricedAttributes price a) + weight other
         go true true w h = omega (arith, h (put call.key ++ lowerValue c v), weight-append (put call.key) (lowerValue c v))
         go true false w h = simp weight-append (omega (arith, h other, notice-weighs c s v, attribute-name-weighs c s))
         go false true w h = simp weight-append (omega (arith, h other, notice-weighs c s v, attribute-name-weighs c s))
@@ -376,17 +405,71 @@ module _ (c : Context) (short : length (c .text) ≤ 65535) where
     keyed-weigh (spread e a) other = omega (arith, keyed-weigh a other)
     keyed-weigh (literal e ps a) other = simp weight-append (omega (arith, literal-weighs c e ps, keyed-weigh a other))
 
-    value-weighs : (v : Value) → weight (lowerValue c v) ≤ 400000 * sizeValue v
+    value-weighs : (v : Value) → weight (lowerValue c v) ≤ 4 * sizeValue v + pricedValue price v
     value-weighs absent = omega arith
     value-weighs (string s) = omega (arith, quoted-weighs (piece s), piece-weighs s)
     value-weighs (expression e) = omega arith
     value-weighs empty = omega arith
-    value-weighs (nodeValue n) = node-weighs n
+    value-weighs (nodeValue n) = tree-weighs n
 
-    children-weighs : (k : Children) → weight (lowerChildren c k) ≤ 400000 * sizeChildren k
+    children-weighs : (k : Children) → weight (lowerChildren c k) ≤ 4 * sizeChildren k + pricedChildren price k
     children-weighs noChildren = omega arith
     children-weighs (textChild s k) = simp weight-append (omega (arith, text-weighs s, children-weighs k))
     children-weighs (expressionChild e k) = omega (arith, children-weighs k)
     children-weighs (emptyChild k) = omega (arith, children-weighs k)
     children-weighs (spreadChild e k) = omega (arith, children-weighs k)
-    children-weighs (nodeChild n k) = simp weight-append (omega (arith, node-weighs n, children-weighs k))
+    children-weighs (nodeChild n k) = simp weight-append (omega (arith, tree-weighs n, children-weighs k))
+
+-- ---- by the texts' lengths
+
+-- a text has no more lines than bytes, and two, of six bytes each, and a string has two ends
+pub text-weighs : (text : List ℕ) (s : Span) → weight (lowerText (jsxText text s)) ≤ 20 + 6 * length (partOf text s)
+text-weighs text s = omega (arith, lines-weigh (jsxText text s), text-few text s)
+
+pub part-within : (text : List ℕ) (s : Span) → length (partOf text s) ≤ s .len
+unfolding partOf
+part-within text s = omega (arith, length-take (s .len) (drop (s .start) text))
+
+part-short : (text : List ℕ) (s : Span) → length (partOf text s) ≤ length text
+unfolding partOf
+part-short text s = omega (arith, length-take (s .len) (drop (s .start) text), length-drop (s .start) text)
+
+pub node-weighs-by-texts : (c : Context) (n : Node) → weight (lowerNode c n) ≤ 4 * sizeNode n + pricedNode (λ s. 6 * s .len) n
+node-weighs-by-texts c = tree-weighs c (λ s. 6 * s .len) (λ s. omega (arith, text-weighs (c .text) s, part-within (c .text) s))
+
+-- ---- whatever the texts
+
+module _ (price : Span → ℕ) (most : (s : Span) → price s ≤ 393210) where
+  mutual
+    unfolding sizeNode sizeAttributes sizeValue sizeChildren pricedNode pricedAttributes pricedValue pricedChildren
+
+    priced-node : (n : Node) → pricedNode price n ≤ 393210 * sizeNode n
+    priced-node (element p n a k) = omega (arith, priced-attributes a, priced-children k)
+    priced-node (fragment p k) = omega (arith, priced-children k)
+
+    priced-attributes : (a : Attributes) → pricedAttributes price a ≤ 393210 * sizeAttributes a
+    priced-attributes noAttributes = omega arith
+    priced-attributes (attribute s v a) = omega (arith, priced-value v, priced-attributes a)
+    priced-attributes (namespacedAttribute s r v a) = omega (arith, priced-value v, priced-attributes a)
+    priced-attributes (spread e a) = omega (arith, priced-attributes a)
+    priced-attributes (literal e ps a) = omega (arith, priced-attributes a)
+
+    priced-value : (v : Value) → pricedValue price v ≤ 393210 * sizeValue v
+    priced-value absent = omega arith
+    priced-value (string s) = omega arith
+    priced-value (expression e) = omega arith
+    priced-value empty = omega arith
+    priced-value (nodeValue n) = priced-node n
+
+    priced-children : (k : Children) → pricedChildren price k ≤ 393210 * sizeChildren k
+    priced-children noChildren = omega arith
+    priced-children (textChild s k) = omega (arith, most s, priced-children k)
+    priced-children (expressionChild e k) = omega (arith, priced-children k)
+    priced-children (emptyChild k) = omega (arith, priced-children k)
+    priced-children (spreadChild e k) = omega (arith, priced-children k)
+    priced-children (nodeChild n k) = omega (arith, priced-node n, priced-children k)
+
+pub node-weighs : (c : Context) → length (c .text) ≤ 65535 → (n : Node) → weight (lowerNode c n) ≤ 400000 * sizeNode n
+node-weighs c short n =
+    let price : Span → ℕ = λ s. 6 * length (partOf (c .text) s) in
+    omega (arith, tree-weighs c price (text-weighs (c .text)) n, priced-node price (λ s. omega (arith, part-short (c .text) s)) n)
