@@ -17,4 +17,5 @@ pub mod CalleeRecords
 pub mod RootSeries
 pub mod Demand3
 pub mod Weights
+pub mod Fewness
 pub mod TreeSizes
