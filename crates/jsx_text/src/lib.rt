@@ -54,12 +54,44 @@ fn mark_of(c: Char) -> Mark
     Mark::Ink(c.width)
 }
 
+// So many bytes of a run are tested at once.
+const BLOCK: usize = 16;
+
+// Whether each byte is from lo to hi. There is no branch on a byte, so that the compiler can take many bytes at a time.
+fn is_run(s: &[u8], lo: u8, hi: u8) -> bool
+    ensures { λ r. ⌜ (r ≡ true → Run (now (s .entry)) lo hi 0 (length (now (s .entry)))) ⌝ }
+{
+    let mut all = true;
+    let mut i = 0;
+    while i < s.len() {
+        let b = s[i];
+        all = all & (lo <= b) & (b <= hi);
+        i += 1;
+    }
+    all
+}
+
+// How far the blocks from a place on have bytes from lo to hi alone.
+fn run_blocks(s: &[u8], from: usize, lo: u8, hi: u8) -> usize
+    requires { ⌜ from ≤ length (now s) ⌝ }
+    ensures { λ r. ⌜ Run (now (s .entry)) lo hi from r ⌝ }
+{
+    let mut to = from;
+    while BLOCK <= s.len() - to {
+        if !is_run(&s[to..to + BLOCK], lo, hi) {
+            return to;
+        }
+        to += BLOCK;
+    }
+    to
+}
+
 // How far the bytes from a place on are from lo to hi.
 fn run_end(s: &[u8], from: usize, lo: u8, hi: u8) -> usize
     requires { ⌜ from ≤ length (now s) ⌝ }
     ensures { λ r. ⌜ Run (now (s .entry)) lo hi from r ⌝ }
 {
-    let mut to = from;
+    let mut to = run_blocks(s, from, lo, hi);
     while to < s.len() {
         let b = s[to];
         if b < lo {

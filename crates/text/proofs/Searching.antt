@@ -1,6 +1,6 @@
 -- `find`, for any test p: a loop's steps, and what its answer says of every byte. Assumes nothing.
 use mathlib.Core.Path.{_≡_, refl, ap, sym, _∙_}
-use mathlib.Core.Bool.{Bool, true, false, cond}
+use mathlib.Core.Bool.{Bool, true, false, cond, not, _&&_}
 use mathlib.Core.List.{List, [], _∷_}
 use Prim.Native.Nat.{ℕ, zero, suc, _+_, _-_, _≤_, _<_}
 use native.Mathlib.Nat.{add-zero, add-suc, suc-add, sub-zero, le-of-suc-le-suc, not-suc-le-zero}
@@ -8,6 +8,8 @@ use native.Mathlib.Numerals.{add-one}
 use native.Mathlib.Omega.{arith}
 use lib.ListN.{length, getD, take, drop, length-drop, drop-of-length-le}
 use lib.Seq.{drop-drop, getD-take, length-take-le}
+use lib.Dec.{eqb}
+use borrow.Author.Tests.{eqb-false, ne-eqb, not-true}
 use lib.Bits.{bitOr, or-add-and, and-le-l, and-le-r}
 use Rattle.text.specs.declared.bytes.Found.the-variants.{At, Nothing}
 use Rattle.text.specs.Bytes.{findFrom, find}
@@ -95,3 +97,8 @@ module _ (p : ℕ → Bool) where
 -- bytes joined by `|`
 pub or-below : (a b : ℕ) → bitOr a b < 0x80 → (a < 0x80) × (b < 0x80)
 or-below a b h = omega (arith, or-add-and a b, and-le-l a b, and-le-r a b)
+
+-- a test joined by `&` with that a byte is not b
+pub both-lack : (all : Bool) (x b : ℕ) → (all && not (eqb x b)) ≡ true → (all ≡ true) × (eqb b x ≡ false)
+both-lack true x b e = (refl, ne-eqb b x (λ h. eqb-false x b (not-true (eqb x b) e) (sym h)))
+both-lack false x b e = let z : _≡_ {A = ℕ} 0 1 = cc in absurd (omega arith)

@@ -4,7 +4,7 @@ use Prim.Native.Nat.{_-_}
 use native.Mathlib.Omega.{arith}
 use lib.ListN.{length}
 use Rattle.jsx_text.specs.Marks.{Run}
-use Rattle.jsx_text.proofs.Runs.{run-none, run-more}
+use Rattle.jsx_text.proofs.Runs.{run-more}
 use Rattle.jsx_text.proofs.run_end.Statement.{statement}
 use Rattle.jsx_text.proofs.run_end.Tie as tie
 
@@ -14,8 +14,11 @@ Inv-loop s from lo hi to₀ to = Run s lo hi from to
 abbrev μ-loop : tie.MeasureT-loop
 μ-loop s from lo hi to₀ to = length s - to
 
+run-blocks-requires : tie.Need-run-blocks-requires Inv-loop μ-loop
+run-blocks-requires c κs = search needs
+
 loop-holds : tie.Need-loop-holds Inv-loop μ-loop
-loop-holds c = run-none _ _ _ _ (c .pre)
+loop-holds c = c .run-blocks .ensures
 
 shared-slice-read-b : tie.Need-shared-slice-read-b Inv-loop μ-loop
 shared-slice-read-b c = search needs
@@ -44,6 +47,7 @@ run-end-spec =
     (tie.spec
     Inv-loop
     μ-loop
+    run-blocks-requires
     loop-holds
     shared-slice-read-b
     returns

@@ -5,16 +5,16 @@ use mathlib.Core.Path.{_≡_, refl, _∙_}
 use lib.ListN.{length, drop}
 use borrow.Author.Tests.{not-false}
 use borrow.Author.Needs.{needs}
-use Rattle.text.specs.Bytes.{findFrom, find, overAscii}
+use Rattle.text.specs.Bytes.{findFrom, overAscii}
 use Rattle.text.proofs.Searching.{find-block}
 use Rattle.text.proofs.bytes.ascii_blocks.Statement.{statement}
 use Rattle.text.proofs.bytes.ascii_blocks.Tie as tie
 
 abbrev Inv-loop : tie.InvT-loop
-Inv-loop s i₀ i = (i ≤ length s) × (find overAscii s ≡ findFrom overAscii i (drop i s))
+Inv-loop s from block i₀ i = (i ≤ length s) × (findFrom overAscii from (drop from s) ≡ findFrom overAscii i (drop i s))
 
 abbrev μ-loop : tie.MeasureT-loop
-μ-loop s i₀ i = length s - i
+μ-loop s from block i₀ i = length s - i
 
 loop-holds : tie.Need-loop-holds Inv-loop μ-loop
 loop-holds c = (search needs, refl)
@@ -47,7 +47,7 @@ loop-less : tie.Need-loop-less Inv-loop μ-loop
 loop-less c = search needs
 
 loop-again : tie.Need-loop-again Inv-loop μ-loop
-loop-again c = (omega arith, c .before .before .before .before .loop .inv .1 ∙ find-block overAscii (c .before .before .before .before .before .before .args .s .now) (c .before .before .before .before .loop .i) 32 (omega arith) (c .before .is-ascii .ensures (not-false _ (c .if1 .left))))
+loop-again c = (omega arith, c .before .before .before .before .loop .inv .1 ∙ find-block overAscii (c .before .before .before .before .before .before .args .s .now) (c .before .before .before .before .loop .i) _ (omega arith) (c .before .is-ascii .ensures (not-false _ (c .if1 .left))))
 
 returns-2 : tie.Need-returns-2 Inv-loop μ-loop
 returns-2 c = search needs

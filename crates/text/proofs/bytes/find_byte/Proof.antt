@@ -1,6 +1,6 @@
 -- `text::bytes::find_byte` meets its contract. The loop's invariant: the search from place i on has the answer. Assumes nothing.
 use Prim.Native.Nat.{_-_}
-use mathlib.Core.Path.{_≡_, refl, sym, _∙_}
+use mathlib.Core.Path.{_≡_, sym, _∙_}
 use lib.Dec.{eqb}
 use lib.ListN.{length, drop}
 use borrow.Author.Tests.{eq-eqb, ne-eqb}
@@ -16,8 +16,11 @@ Inv-loop s b i₀ i = find (eqb b) s ≡ findFrom (eqb b) i (drop i s)
 abbrev μ-loop : tie.MeasureT-loop
 μ-loop s b i₀ i = length s - i
 
+lacking-blocks-requires : tie.Need-lacking-blocks-requires Inv-loop μ-loop
+lacking-blocks-requires c κs = search needs
+
 loop-holds : tie.Need-loop-holds Inv-loop μ-loop
-loop-holds c = refl
+loop-holds c = c .lacking-blocks .ensures
 
 shared-slice-read-if1 : tie.Need-shared-slice-read-if1 Inv-loop μ-loop
 shared-slice-read-if1 c = search needs
@@ -43,6 +46,7 @@ find-byte-spec =
     (tie.spec
     Inv-loop
     μ-loop
+    lacking-blocks-requires
     loop-holds
     shared-slice-read-if1
     returns

@@ -28,8 +28,11 @@ returns-2 c = sym (find-hit overAscii (c .before .before .before .before .args .
 ascii-blocks-requires : tie.Need-ascii-blocks-requires Inv-loop μ-loop
 ascii-blocks-requires c κs = search needs
 
+ascii-blocks-requires-2 : tie.Need-ascii-blocks-requires-2 Inv-loop μ-loop
+ascii-blocks-requires-2 c κs = search needs
+
 loop-holds : tie.Need-loop-holds Inv-loop μ-loop
-loop-holds c = c .ascii-blocks .ensures
+loop-holds c = c .before .ascii-blocks .ensures .1 ∙ c .ascii-blocks2 .ensures .1
 
 shared-slice-read-if3 : tie.Need-shared-slice-read-if3 Inv-loop μ-loop
 shared-slice-read-if3 c = search needs
@@ -59,6 +62,7 @@ find-over-ascii-spec =
     shared-slice-read-if2
     returns-2
     ascii-blocks-requires
+    ascii-blocks-requires-2
     loop-holds
     shared-slice-read-if3
     returns-3
