@@ -18,5 +18,5 @@ pub mod RootSeries
 pub mod Demand3
 pub mod Weights
 pub mod Fewness
-pub mod Notes
 pub mod TreeSizes
+pub mod Notes

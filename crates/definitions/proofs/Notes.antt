@@ -2,6 +2,7 @@
 --     noted             the bytes of an output's notices
 --     notes             they are those of the notice tape
 --     node-notes        a tree's notices have no more bytes than the tree has on its tape
+--     root-notes        so a root's have no more than its tape
 -- Assumes nothing.
 use mathlib.Core.Path.{_≡_, refl}
 use mathlib.Core.Bool.{Bool, true, false, cond, not, _&&_}
@@ -16,12 +17,18 @@ use Rattle.text.specs.Spans.{partOf}
 use Rattle.commands.specs.declared.root.Place.{Place}
 use Rattle.definitions.specs.declared.options.Mode.{Mode}
 use Rattle.definitions.specs.declared.options.Mode.the-variants.{Module, Script, Classic}
-use Rattle.definitions.specs.Tree.{Name, Property, unnamed, propName, Node, element, fragment, Attributes, noAttributes, attribute, namespacedAttribute, spread, literal, Value, absent, string, expression, empty, nodeValue, Children, noChildren, textChild, expressionChild, emptyChild, spreadChild, nodeChild}
+use Rattle.definitions.specs.Tree.{Name, Property, unnamed, propName, Node, element, fragment, Attributes, noAttributes, attribute, namespacedAttribute, spread, literal, Value, absent, string, expression, empty, nodeValue, Children, noChildren, textChild, expressionChild, emptyChild, spreadChild, nodeChild, Root}
 use Rattle.definitions.specs.Tree as tree
+use Rattle.definitions.specs.Judging.{done}
+use Rattle.definitions.specs.Reading.{readRoot}
+use Rattle.definitions.specs.declared.options.Settings.{Settings}
+use Rattle.definitions.specs.declared.records.Import.{Import}
 use Rattle.definitions.specs.JsxText.{jsxText}
 use Rattle.definitions.specs.Calls.{Notice, valuelessKey, namespacedTag, noticeBytesOf, noticeBytes}
 use Rattle.definitions.specs.Calls as call
-use Rattle.definitions.specs.Lowering.{Context, Output, emit, notify, noticesOf, put, putOver, putSpan, piece, joined, colonized, members, lowerName, imported, fragmentTag, isKey, hasValue, hasProto, carried, lowerLiteral, isFound, attributeName, keyNotice, survivors, hasSpread, formOf, childrenProperty, lowerText, sourceOutput, selfOutput, staticChildren, noKey, isClassic, closing, automaticName, automaticCall, objectOf, classicCall, pluginsOff, isLast, loneSpreadOr, classicElement, lowerNode, lowerAttributes, lowerKey, lowerValue, lowerChildren}
+use Rattle.definitions.specs.Lowering.{Context, Output, emit, notify, noticesOf, put, putOver, putSpan, piece, joined, colonized, members, lowerName, imported, fragmentTag, isKey, hasValue, hasProto, carried, lowerLiteral, isFound, attributeName, keyNotice, survivors, hasSpread, formOf, childrenProperty, lowerText, sourceOutput, selfOutput, staticChildren, noKey, isClassic, closing, automaticName, automaticCall, objectOf, classicCall, pluginsOff, isLast, loneSpreadOr, classicElement, lowerNode, lowerAttributes, lowerKey, lowerValue, lowerChildren, canAddSelf, lowerRoot}
+use Rattle.definitions.specs.Entries.{loweredAfter}
+use Rattle.definitions.proofs.TreeSizes.{root-size}
 use Rattle.definitions.proofs.Weights.{sizeName, sizeProperties, sizeNode, sizeAttributes, sizeValue, sizeChildren}
 
 unfoldable pub noted : List Output → ℕ
@@ -260,3 +267,10 @@ module _ (c : Context) where
     children-note (emptyChild k) = omega (arith, children-note k)
     children-note (spreadChild e k) = omega (arith, children-note k)
     children-note (nodeChild n k) = simp noted-append (omega (arith, node-notes n, children-note k))
+
+pub root-notes : (text tape : List ℕ) (s : Settings) (js : List Import) (r : Root) (u : ℕ) → readRoot text tape ≡ done r u
+    → length (loweredAfter text s js r .notices) ≤ u
+unfolding loweredAfter lowerRoot
+root-notes text tape s js r u e =
+    let c : Context = record { text = text; settings = s; selfAllowed = canAddSelf r } in
+    omega (arith, notes (lowerNode c (r .node)), node-notes c (r .node), root-size text tape r u e)
