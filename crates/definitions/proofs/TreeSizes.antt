@@ -46,45 +46,45 @@ pub data Told {A : Type 0} (R : A → ℕ → Type 0) : Parsed A → Type 0 wher
   tells : {a : A} {u : ℕ} → R a u → Told R (done a u)
   faults : {f : Fault} {p : ℕ} → Told R (stop f p)
 
-told-then : {A B : Type 0} {R : A → ℕ → Type 0} {S : B → ℕ → Type 0} {p : Parsed A} (k : A → ℕ → Parsed B)
+pub told-then : {A B : Type 0} {R : A → ℕ → Type 0} {S : B → ℕ → Type 0} {p : Parsed A} (k : A → ℕ → Parsed B)
     → Told R p → ((a : A) (u : ℕ) → R a u → Told S (k a u)) → Told S (p then k)
 unfolding _then_
 told-then k (tells {a} {u} r) h = h a u r
 told-then k faults h = faults
 
-told-map : {A B : Type 0} {R : A → ℕ → Type 0} {S : B → ℕ → Type 0} {p : Parsed A} (g : A → B)
+pub told-map : {A B : Type 0} {R : A → ℕ → Type 0} {S : B → ℕ → Type 0} {p : Parsed A} (g : A → B)
     → Told R p → ((a : A) (u : ℕ) → R a u → S (g a) u) → Told S (map g p)
 unfolding map
 told-map g t h = told-then (λ a u. done (g a) u) t (λ a u r. tells (h a u r))
 
-told-from : {A : Type 0} {R S : A → ℕ → Type 0} {p : Parsed A} (u : ℕ) → Told R p → ((a : A) (v : ℕ) → R a v → S a (u + v)) → Told S (from u p)
+pub told-from : {A : Type 0} {R S : A → ℕ → Type 0} {p : Parsed A} (u : ℕ) → Told R p → ((a : A) (v : ℕ) → R a v → S a (u + v)) → Told S (from u p)
 unfolding from
 told-from u (tells {a} {u = v} r) h = tells (h a v r)
 told-from u faults h = faults
 
-told-spanned : {A : Type 0} {R : A → ℕ → Type 0} (b : Bounds) {p : Parsed A} → Told R p → Told R (spanned b p)
+pub told-spanned : {A : Type 0} {R : A → ℕ → Type 0} (b : Bounds) {p : Parsed A} → Told R p → Told R (spanned b p)
 unfolding spanned
 told-spanned Outside t = faults
 told-spanned Cuts t = faults
 told-spanned Empty t = t
 told-spanned Good t = t
 
-told-named : {A : Type 0} {R : A → ℕ → Type 0} (b : Bounds) {p : Parsed A} → Told R p → Told R (named b p)
+pub told-named : {A : Type 0} {R : A → ℕ → Type 0} (b : Bounds) {p : Parsed A} → Told R p → Told R (named b p)
 unfolding named
 told-named Outside t = faults
 told-named Cuts t = faults
 told-named Empty t = faults
 told-named Good t = t
 
-told-or : {A : Type 0} {R : A → ℕ → Type 0} (b : Bool) (f : Fault) {p : Parsed A} → Told R p → Told R (cond b (stop f 0) p)
+pub told-or : {A : Type 0} {R : A → ℕ → Type 0} (b : Bool) (f : Fault) {p : Parsed A} → Told R p → Told R (cond b (stop f 0) p)
 told-or true f t = faults
 told-or false f t = t
 
-told-lettered : {A : Type 0} {R : A → ℕ → Type 0} (text : List ℕ) (s : Span) {p : Parsed A} → Told R p → Told R (lettered text s p)
+pub told-lettered : {A : Type 0} {R : A → ℕ → Type 0} (text : List ℕ) (s : Span) {p : Parsed A} → Told R p → Told R (lettered text s p)
 unfolding lettered
 told-lettered text s t = told-spanned (boundsOf text s) (told-or (ampersand (find (eqb 0x26) (partOf text s))) fault.Ampersand t)
 
-told-opened : {A : Type 0} {R S : A → ℕ → Type 0} (d : ℕ) (p : Place) {body : Parsed A}
+pub told-opened : {A : Type 0} {R S : A → ℕ → Type 0} (d : ℕ) (p : Place) {body : Parsed A}
     → Told R body → ((a : A) (u : ℕ) → R a u → S a (9 + u)) → Told S (opened d p body)
 unfolding opened
 told-opened d p t h =

@@ -1,0 +1,63 @@
+// How much room a root's calls can take, told by one pass over its tape, so that a target with that much need not be measured first.
+ghost use mathlib.Core.Path.{_≡_};
+ghost use mathlib.Core.List.{List};
+ghost use Prim.Native.Nat.{ℕ, _≤_, _<_};
+ghost use lib.ListN.{length, drop};
+ghost use Rattle.definitions.specs.declared.options.Settings.{Settings};
+ghost use Rattle.definitions.specs.declared.records.Import.{Import};
+ghost use Rattle.definitions.specs.Judging.{done};
+ghost use Rattle.definitions.specs.Tree.{Root};
+ghost use Rattle.definitions.specs.Reading.{readRoot};
+ghost use Rattle.definitions.specs.Entries.{loweredAfter};
+ghost use Rattle.room.specs.Commands.{operandSize, textLength};
+use tape::numbers::read_u16;
+
+// How many bytes of operands follow each code up to 5F, by the code's halves.
+const OPERANDS: [[u8; 16]; 6] = [
+    [0, 1, 1, 0, 0, 0, 0, 0, 0, 0, 0, 0, 0, 0, 0, 0],
+    [8, 8, 0, 0, 0, 0, 0, 0, 0, 0, 0, 0, 0, 0, 0, 0],
+    [4, 4, 0, 8, 0, 4, 0, 0, 0, 0, 0, 0, 0, 0, 0, 0],
+    [4, 8, 2, 2, 2, 0, 6, 0, 0, 0, 0, 0, 0, 0, 0, 0],
+    [0, 4, 2, 0, 0, 0, 0, 0, 0, 0, 0, 0, 0, 0, 0, 0],
+    [4, 2, 0, 0, 0, 0, 0, 0, 0, 0, 0, 0, 0, 0, 0, 0],
+];
+
+// How many bytes of operands follow a code; 0 where no command begins with it.
+fn operand_size(code: u8) -> u8
+    ensures { λ r. ⌜ r ≡ operandSize code ⌝ }
+{
+    if 96 <= code {
+        return 0;
+    }
+    OPERANDS[(code / 16) as usize][(code % 16) as usize]
+}
+
+// The length of the text that the command at a place tells; 0 where it is none, or cut off.
+fn text_length(tape: &[u8], at: usize) -> u16
+    requires { ⌜ at < length (now tape) ⌝ }
+    ensures { λ r. ⌜ r ≡ textLength (drop at (now (tape .entry))) ⌝ }
+{
+    if tape[at] != 0x50 {
+        return 0;
+    }
+    if tape.len() - at < 5 {
+        return 0;
+    }
+    read_u16(tape, at + 3)
+}
+
+// Four bytes for each of the tape and six for each of its texts': as much as the calls of the root can take, if it is one.
+pub fn call_room(tape: &[u8]) -> usize
+    ensures { λ r. ⌜ ((text : List ℕ) (s : Settings) (js : List Import) (o : Root) (u : ℕ) → length (now (tape .entry)) ≤ 65535 → readRoot text (now (tape .entry)) ≡ done o u → length (loweredAfter text s js o .calls) ≤ r) ⌝ }
+{
+    if 65535 < tape.len() {
+        return 0;
+    }
+    let mut at: usize = 0;
+    let mut texts: usize = 0;
+    while at < tape.len() {
+        texts = texts + text_length(tape, at) as usize;
+        at = at + 1 + operand_size(tape[at]) as usize;
+    }
+    4 * tape.len() + 6 * texts
+}
