@@ -1,6 +1,7 @@
 -- Lowering a tape that reads: a run that counts, and one that writes.
 --     Counted, counts      what the first run tells
 --     no-number, no-room, no-notice-room, all-fits     the answers by the code's tests
+--     surely-fits          what needs no counting
 --     written              what the second run comes to
 -- Assumes nothing.
 use mathlib.Core.Path.{_≡_, refl, sym, ap, subst, _∙_}
@@ -13,6 +14,8 @@ use lib.Dec.{ltb}
 use borrow.Author.Tests.{lt-ltb, le-ltb}
 use Rattle.text.proofs.Lists.{told}
 use Rattle.tape.specs.declared.refusal.Refusal.the-variants as refusal
+use Rattle.definitions.specs.declared.options.Settings.{Settings}
+use Rattle.definitions.specs.declared.records.Import.{Import}
 use Rattle.definitions.specs.declared.state.State.{State}
 use Rattle.definitions.specs.declared.state.Answer.the-variants as answer
 use Rattle.definitions.specs.declared.state.Stepped.{Stepped}
@@ -22,6 +25,8 @@ use Rattle.definitions.specs.Reading.{readRoot}
 use Rattle.definitions.specs.Lowering.{lowerRoot}
 use Rattle.definitions.specs.States.{live, imports}
 use Rattle.definitions.specs.Entries.{Lowered, loweredAfter, fitted, moved, outcomeBy}
+use Rattle.definitions.proofs.Fewness.{bound-few}
+use Rattle.definitions.proofs.Notes.{root-notes}
 use Rattle.store.proofs.Adding.{held-moved}
 use Rattle.roots.proofs.Done.{checked-good}
 use Rattle.roots.proofs.Readings.{root-in-order}
@@ -85,6 +90,28 @@ module _ {text : List ℕ} {s : State} {tape : List ℕ} {callRoom noticeRoom : 
       unfolding fitted refuse answerOf
       all-fits h =
           rw (c .judges, told (c .full) free, ← c .calls, ← c .notices, le-ltb (callRoom - s .calls) (p .calls) room, le-ltb (noticeRoom - s .notices) (p .notices) h)
+
+-- ---- what needs no counting
+
+-- there is room for what a tape can give at the most, and a number for whatever is bound
+pub surely-fits : {text : List ℕ} {s : State} {tape : List ℕ} {callRoom noticeRoom r : ℕ} → Ready text s tape callRoom noticeRoom
+    → ((t : List ℕ) (z : Settings) (js : List Import) (o : Root) (u : ℕ) → length tape ≤ 65535 → readRoot t tape ≡ done o u → length (loweredAfter t z js o .calls) ≤ r)
+    → r ≤ callRoom - s .calls → length tape ≤ noticeRoom - s .notices → answerOf (judgeTape text s tape callRoom noticeRoom) ≡ answer.Accepted
+unfolding fitted refuse answerOf
+surely-fits {text} {s} {tape} {callRoom} {noticeRoom} ready most room notices =
+    let good = checked-good (readRoot text tape) (ready .reads) in
+    let o = good .0 in
+    let js = imports (live s) in
+    let l : Lowered = loweredAfter text (s .settings) js o in
+    let c : length (l .calls) ≤ callRoom - s .calls = omega (arith, most text (s .settings) js o (good .1) (ready .unforged .spelled .tape-short) (good .2)) in
+    let n : length (l .notices) ≤ noticeRoom - s .notices =
+    omega (arith, root-notes text tape (s .settings) js o (good .1) (good .2), root-in-order text tape o (good .1) (good .2)) in
+    rw (
+      good-tape text s tape callRoom noticeRoom o (good .1) (good .2),
+      le-ltb 8 (length (l .bound)) (bound-few text s o (ready .unforged .bore)),
+      le-ltb (callRoom - s .calls) (length (l .calls)) c,
+      le-ltb (noticeRoom - s .notices) (length (l .notices)) n,
+    )
 
 -- ---- the run that writes
 

@@ -13,6 +13,7 @@ use definitions::state::State;
 use definitions::state::Stepped;
 use emit::pen::Pen;
 use jsx::jsx_impl::lower;
+use room::call_room;
 use roots::check::Checked;
 use roots::check::check_root;
 use store::forged::is_forged;
@@ -112,6 +113,12 @@ fn lower_checked(
     requires { ⌜ Ready (now text) state (now tape) (length (now calls)) (length (now notices)) ⌝ }
     ensures { λ r. ⌜ Comes (tapeOutcome (now (text .entry)) state (now (tape .entry)) (now (calls .entry)) (now (notices .entry))) r (now (calls .exit)) (now (notices .exit)) ⌝ }
 {
+    // where there is room for whatever the tape can give, nothing need be counted
+    if call_room(tape) <= calls.len() - state.calls {
+        if tape.len() <= notices.len() - state.notices {
+            return write(text, state, tape, calls, notices);
+        }
+    }
     match fit(text, state, tape, calls.len(), notices.len()) {
         Answer::Refused(refusal) => refused(state, refusal),
         Answer::Accepted => write(text, state, tape, calls, notices),

@@ -1,12 +1,35 @@
+-- `lowering::lower_checked` meets its contract: where there is room for all that the tape can give, the root is accepted uncounted. Assumes nothing.
 use denote.Ref.{now}
 use Rattle.text.proofs.Lists.{told}
 use Rattle.lowering.proofs.Judging.{not-fitting}
+use Rattle.lowering.proofs.Running.{surely-fits}
 use borrow.Author.Needs.{needs}
 use Rattle.lowering.proofs.lower_checked.Statement.{statement}
 use Rattle.lowering.proofs.lower_checked.Tie as tie
 
+call-room-requires : tie.Need-call-room-requires
+call-room-requires c κs = search needs
+
+sub-if1 : tie.Need-sub-if1
+sub-if1 c = c .before .before .before .before .before .before .pre .unforged .calls-within
+
+sub-if2 : tie.Need-sub-if2
+sub-if2 c = c .before .before .before .before .before .before .before .before .pre .unforged .notices-within
+
+write-requires : tie.Need-write-requires
+write-requires c κs = (c .before .before .before .before .before .before .before .before .before .before .before .pre, surely-fits (c .before .before .before .before .before .before .before .before .before .before .before .pre) (c .before .before .before .before .before .before .call-room .ensures) (c .before .before .before .before .if1 .taken) (c .before .before .if2 .taken))
+
+same-length : tie.Need-same-length
+same-length c = search needs
+
+same-length-2 : tie.Need-same-length-2
+same-length-2 c = search needs
+
+returns : tie.Need-returns
+returns c = c .before .before .before .before .write .ensures
+
 fit-requires : tie.Need-fit-requires
-fit-requires c κs = search needs
+fit-requires c κs = c .before .before .before .before .before .before .before .pre
 
 enum-known-refusal : tie.Need-enum-known-refusal
 enum-known-refusal c = search needs
@@ -17,33 +40,40 @@ refused-requires c κs = search needs
 enum-told : tie.Need-enum-told
 enum-told c = search needs
 
-write-requires : tie.Need-write-requires
-write-requires c κs = ((c .before .before .before .before .before .before .before .before .before .pre), told (c .before .before .before .before .fit .ensures) (c .before .before .enum-told .given .1))
-
-returns : tie.Need-returns
-returns c =
-    let a = c .before .before .before .before .before .before .before .before .before .args in
-    not-fitting (now (a .text)) (a .state) (now (a .tape)) (now (a .calls)) (now (a .notices)) (told (c .before .before .before .before .fit .ensures) (c .before .before .refusal .given .1)) (c .refused .ensures)
-
-same-length : tie.Need-same-length
-same-length c = search needs
-
-same-length-2 : tie.Need-same-length-2
-same-length-2 c = search needs
+write-requires-2 : tie.Need-write-requires-2
+write-requires-2 c κs = (c .before .before .before .before .before .before .before .before .before .before .before .before .pre, told (c .before .before .before .before .fit .ensures) (c .before .before .enum-told .given .1))
 
 returns-2 : tie.Need-returns-2
-returns-2 c = c .before .before .before .before .write .ensures
+returns-2 c =
+    let a = c .before .before .before .before .before .before .before .before .before .before .before .before .args in
+    not-fitting (now (a .text)) (a .state) (now (a .tape)) (now (a .calls)) (now (a .notices)) (told (c .before .before .before .before .fit .ensures) (c .before .before .refusal .given .1)) (c .refused .ensures)
+
+same-length-3 : tie.Need-same-length-3
+same-length-3 c = search needs
+
+same-length-4 : tie.Need-same-length-4
+same-length-4 c = search needs
+
+returns-3 : tie.Need-returns-3
+returns-3 c = c .before .before .before .before .write2 .ensures
 
 pub lower-checked-spec : {M : Type 1} → statement M
 lower-checked-spec =
     tie.close
     (tie.spec
+    call-room-requires
+    sub-if1
+    sub-if2
+    write-requires
+    same-length
+    same-length-2
+    returns
     fit-requires
     enum-known-refusal
     refused-requires
     enum-told
-    write-requires
-    returns
-    same-length
-    same-length-2
-    returns-2)
+    write-requires-2
+    returns-2
+    same-length-3
+    same-length-4
+    returns-3)
