@@ -3,8 +3,15 @@
 // targets as they are.
 ghost use mathlib.Core.Path.{_≡_};
 ghost use mathlib.Core.Bool.{cond};
+ghost use mathlib.Core.List.{List};
+ghost use Prim.Native.Nat.{ℕ, _≤_};
 ghost use lib.ListN.{length};
-ghost use Rattle.definitions.specs.Entries.{opened, recordsAnswer, recordsTarget};
+ghost use Rattle.definitions.specs.declared.options.Settings.{Settings};
+ghost use Rattle.definitions.specs.declared.records.Import.{Import};
+ghost use Rattle.definitions.specs.Judging.{done};
+ghost use Rattle.definitions.specs.Tree.{Root};
+ghost use Rattle.definitions.specs.Reading.{readRoot};
+ghost use Rattle.definitions.specs.Entries.{opened, loweredAfter, recordsAnswer, recordsTarget};
 ghost use Rattle.packing.specs.Packed.{unpacked, unpackedAnswer};
 ghost use Rattle.jsxlib.specs.Entries.{stateFrom, numberBy, figureBy, stateAfter, answerIn, openAnswer, rootOver, recordsOver, recordsNumber, recordsFigure};
 use definitions::state::Answer;
@@ -13,6 +20,7 @@ use definitions::state::Written;
 use lowering::lower_root;
 use packing::reading::unpack;
 use packing::writing::pack;
+use room::call_room;
 use settings::opening::open_job;
 use store::module_imports::write_records;
 use tape::refusal::Refusal;
@@ -148,4 +156,13 @@ pub extern "C" fn jsx_fills(state: &[u8], calls: &mut usize, notices: &mut usize
         return 0;
     }
     12
+}
+
+// As many bytes as the calls of a root can take at the most: a target with that much room behind its fill takes the root in one pass. What the
+// notices take at the most is the length of the tape.
+#[no_mangle]
+pub extern "C" fn jsx_call_room(tape: &[u8]) -> usize
+    ensures { λ r. ⌜ ((text : List ℕ) (s : Settings) (js : List Import) (o : Root) (u : ℕ) → length (now (tape .entry)) ≤ 65535 → readRoot text (now (tape .entry)) ≡ done o u → length (loweredAfter text s js o .calls) ≤ r) ⌝ }
+{
+    call_room(tape)
 }

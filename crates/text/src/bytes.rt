@@ -34,6 +34,7 @@ pub fn same(a: &[u8], b: &[u8]) -> bool
 // So many bytes are tested at once, without a branch on a byte, so that the compiler can take many at a time. What is left of the long blocks is
 // tested by the short ones, and what is left of those byte by byte.
 const LONG: usize = 256;
+
 const SHORT: usize = 32;
 
 // Whether no byte of `s` is `b`.
