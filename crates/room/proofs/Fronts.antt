@@ -20,7 +20,7 @@ use Rattle.commands.specs.declared.root.ValueCommand.{ValueCommand}
 use Rattle.commands.specs.declared.root.ChildCommand.{ChildCommand}
 use Rattle.commands.specs.declared.root.ChildCommand.the-variants as child
 use Rattle.tape.specs.Numbers.{u16At}
-use Rattle.room.specs.Commands.{operandSizes, operandSize, textLength}
+use Rattle.room.specs.Commands.{operandSize, textLength}
 use Rattle.room.proofs.Passing.{room, room-front}
 
 -- n bytes in front, with a text of l bytes, and the room of what is behind them are within the room of t
@@ -73,7 +73,7 @@ with-operands P n t {cut} {whole} p q = go (ltb (length t) n) refl
 -- ---- each place
 
 pub heritage-front : (t : List ℕ) → Fronted t (heritageSize (heritageCommand t)) 0
-unfolding heritageCommand operandSize operandSizes
+unfolding heritageCommand operandSize
 heritage-front [] = nothing []
 heritage-front (b ∷ []) =
     let P : HeritageCommand → Type 0 = λ c. Fronted (b ∷ []) (heritageSize c) 0 in
@@ -83,7 +83,7 @@ heritage-front (b ∷ k ∷ t) =
     test P b 0x01 (λ e. choose P (leb k 2) (front b 0x01 1 (k ∷ t) refl e (omega arith)) (nothing _)) (nothing _)
 
 pub scope-front : (found : Bool) (t : List ℕ) → Fronted t (scopeSize (scopeCommand found t)) 0
-unfolding scopeCommand operandSize operandSizes
+unfolding scopeCommand operandSize
 scope-front found [] = nothing []
 scope-front found (b ∷ t) =
     let P : ScopeCommand → Type 0 = λ c. Fronted (b ∷ t) (scopeSize c) 0 in
@@ -96,7 +96,7 @@ scope-front found (b ∷ t) =
     kind (k ∷ t) e = choose (λ (c : ScopeCommand). Fronted (b ∷ k ∷ t) (scopeSize c) 0) (leb k 3) (front b 0x02 1 (k ∷ t) refl e (omega arith)) (nothing _)
 
 pub name-front : (t : List ℕ) → Fronted t (nameSize (nameCommand t)) 0
-unfolding nameCommand operandSize operandSizes
+unfolding nameCommand operandSize
 name-front [] = nothing []
 name-front (b ∷ t) =
     let P : NameCommand → Type 0 = λ c. Fronted (b ∷ t) (nameSize c) 0 in
@@ -106,14 +106,14 @@ name-front (b ∷ t) =
     (test P b 0x23 (λ e. with-operands P 8 t (nothing _) (λ h. front b 0x23 8 t refl e h)) (nothing _))))
 
 pub member-front : (t : List ℕ) → Fronted t (memberSize (memberCommand t)) 0
-unfolding memberCommand operandSize operandSizes
+unfolding memberCommand operandSize
 member-front [] = nothing []
 member-front (b ∷ t) =
     let P : MemberCommand → Type 0 = λ c. Fronted (b ∷ t) (memberSize c) 0 in
     test P b 0x25 (λ e. with-operands P 4 t (nothing _) (λ h. front b 0x25 4 t refl e h)) (nothing _)
 
 pub attribute-front : (t : List ℕ) → Fronted t (attributeSize (attributeCommand t)) 0
-unfolding attributeCommand operandSize operandSizes
+unfolding attributeCommand operandSize
 attribute-front [] = nothing []
 attribute-front (b ∷ t) =
     let P : AttributeCommand → Type 0 = λ c. Fronted (b ∷ t) (attributeSize c) 0 in
@@ -124,7 +124,7 @@ attribute-front (b ∷ t) =
     (test P b 0x1e (λ e. front b 0x1e 0 t refl e (omega arith)) (nothing _)))))
 
 pub property-front : (t : List ℕ) → Fronted t (propertySize (propertyCommand t)) 0
-unfolding propertyCommand operandSize operandSizes
+unfolding propertyCommand operandSize
 property-front [] = nothing []
 property-front (b ∷ t) =
     let P : PropertyCommand → Type 0 = λ c. Fronted (b ∷ t) (propertySize c) 0 in
@@ -133,7 +133,7 @@ property-front (b ∷ t) =
     (test P b 0x35 (λ e. front b 0x35 0 t refl e (omega arith)) (nothing _)))
 
 pub value-front : (t : List ℕ) → Fronted t (valueSize (valueCommand t)) 0
-unfolding valueCommand operandSize operandSizes
+unfolding valueCommand operandSize
 value-front [] = nothing []
 value-front (b ∷ t) =
     let P : ValueCommand → Type 0 = λ c. Fronted (b ∷ t) (valueSize c) 0 in
@@ -150,7 +150,7 @@ unfolding textLength
 text-length b t e h = rw (eq-eqb b 0x50 e, le-ltb (length t) 4 h) refl
 
 pub child-front : (t : List ℕ) → Fronted t (childSize (childCommand t)) (childText (childCommand t))
-unfolding childCommand operandSize operandSizes
+unfolding childCommand operandSize
 child-front [] = nothing []
 child-front (b ∷ t) =
     let P : ChildCommand → Type 0 = λ c. Fronted (b ∷ t) (childSize c) (childText c) in

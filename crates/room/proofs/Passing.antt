@@ -1,18 +1,19 @@
 -- One pass over a tape, from command to command by their first bytes.
---     texts             what the texts come to that are met on the way
+--     texts             what the lengths of the texts come to that are met on the way
 --     texts-front       the command in front, and those behind it
---     room              four times the bytes and six times the texts
---     room-front        of a command that is whole
+--     room              four bytes for each of a tape and six for each of the texts met
+--     room-front        of a command that is whole, and what is behind it
+--     no-text, ..       the text at a place; texts-step, texts-end: from a place on
 -- Assumes nothing.
 use mathlib.Core.Path.{_≡_, refl, ap, _∙_}
 use mathlib.Core.List.{List, [], _∷_}
-use Prim.Native.Nat.{ℕ, zero, suc, _+_, _*_, _-_, _/_, _%_, _≤_, _<_}
+use Prim.Native.Nat.{ℕ, zero, suc, _+_, _*_, _-_, _≤_, _<_}
 use native.Mathlib.Omega.{arith}
-use lib.ListN.{length, getD, drop, length-drop, drop-of-length-le, List·getD-eq-default}
+use lib.ListN.{length, getD, drop, length-drop, drop-of-length-le}
 use lib.Seq.{drop-cons, drop-drop, getD-drop}
 use borrow.Author.Tests.{lt-ltb, le-ltb, eq-eqb, ne-eqb}
 use Rattle.tape.specs.Numbers.{u16At}
-use Rattle.room.specs.Commands.{operandSizes, operandSize, textLength}
+use Rattle.room.specs.Commands.{operandSize, textLength}
 
 -- the texts behind n bytes that are passed over
 unfoldable pub textsBehind : ℕ → List ℕ → ℕ
@@ -46,12 +47,6 @@ room-front b k n t e f h =
     omega (arith, texts-front b t, length-drop n t)
 
 -- ---- at a place of the tape
-
-pub no-operands : (code : ℕ) → 96 ≤ code → operandSize code ≡ 0
-unfolding operandSize operandSizes
-no-operands code h =
-    let past : 6 ≤ code / 16 = omega arith in
-    ap (λ (row : List ℕ). getD row (code % 16) 0) (List·getD-eq-default operandSizes [] past)
 
 module _ (tape : List ℕ) (at : ℕ) (inside : at < length tape) where
   from-place : drop at tape ≡ getD tape at 0 ∷ drop (suc at) tape

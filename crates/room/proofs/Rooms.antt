@@ -1,6 +1,6 @@
 -- The pass finds every text of a root that is read.
 --     Costs               a reading's value is within the room of the bytes that it took
---     node-costs, ..      of each reader
+--     name-costs, ..      of each reader
 --     calls-within        so a root's calls are within the room of its tape
 -- Assumes nothing.
 use mathlib.Core.Path.{_≡_, subst}
@@ -36,11 +36,11 @@ use Rattle.commands.specs.Sizes.{heritageSize, scopeSize, nameSize, memberSize,
 use Rattle.definitions.specs.declared.options.Settings.{Settings}
 use Rattle.definitions.specs.declared.records.Import.{Import}
 use Rattle.definitions.specs.Judging.{Parsed, done, stop, from, worse}
-use Rattle.definitions.specs.Tree.{Name, plain, identifier, this, namespaced, Property, unnamed, propName, Node, element, fragment, Attributes, noAttributes, attribute, namespacedAttribute, spread, literal, Value, absent, string, expression, empty, nodeValue, Children, noChildren, textChild, expressionChild, emptyChild, spreadChild, nodeChild, Root}
+use Rattle.definitions.specs.Tree.{Name, identifier, this, Property, unnamed, propName, Node, element, fragment, Attributes, noAttributes, attribute, namespacedAttribute, spread, literal, Value, absent, expression, empty, nodeValue, Children, noChildren, textChild, expressionChild, emptyChild, spreadChild, nodeChild, Root}
 use Rattle.definitions.specs.Reading.{opened, membersBy, nameBy, propertiesBy, attributesBy, valueBy, childrenBy, membersAt, nameAt, propertiesAt, elementAt, fragmentAt, attributesAt, valueAt, childrenAt, isFunction, Scoped, inScope, unscoped, scopesBy, scopesAt, rootBy, whole, readRoot}
 use Rattle.definitions.specs.Lowering.{lowerRoot, canAddSelf}
 use Rattle.definitions.specs.Entries.{loweredAfter}
-use Rattle.definitions.proofs.Weights.{weight, calls-weigh, node-weighs-by-texts, sizeName, sizeProperties, sizeNode, sizeAttributes, sizeValue, sizeChildren, pricedNode, pricedAttributes, pricedValue, pricedChildren}
+use Rattle.definitions.proofs.Weights.{calls-weigh, node-weighs-by-texts, sizeName, sizeProperties, sizeNode, sizeAttributes, sizeValue, sizeChildren, pricedNode, pricedAttributes, pricedValue, pricedChildren}
 use Rattle.definitions.proofs.TreeSizes.{Told, tells, faults, told-then, told-map, told-from, told-spanned, told-named, told-lettered, told-opened, told-done}
 use Rattle.room.proofs.Passing.{room}
 use Rattle.room.proofs.Fronts.{Fronted, childText, heritage-front, scope-front, name-front, member-front, attribute-front, property-front, value-front, child-front}

@@ -12,24 +12,31 @@ ghost use Rattle.definitions.specs.Entries.{loweredAfter};
 ghost use Rattle.room.specs.Commands.{operandSize, textLength};
 use tape::numbers::read_u16;
 
-// How many bytes of operands follow each code up to 5F, by the code's halves.
-const OPERANDS: [[u8; 16]; 6] = [
-    [0, 1, 1, 0, 0, 0, 0, 0, 0, 0, 0, 0, 0, 0, 0, 0],
-    [8, 8, 0, 0, 0, 0, 0, 0, 0, 0, 0, 0, 0, 0, 0, 0],
-    [4, 4, 0, 8, 0, 4, 0, 0, 0, 0, 0, 0, 0, 0, 0, 0],
-    [4, 8, 2, 2, 2, 0, 6, 0, 0, 0, 0, 0, 0, 0, 0, 0],
-    [0, 4, 2, 0, 0, 0, 0, 0, 0, 0, 0, 0, 0, 0, 0, 0],
-    [4, 2, 0, 0, 0, 0, 0, 0, 0, 0, 0, 0, 0, 0, 0, 0],
-];
-
-// How many bytes of operands follow a code; 0 where no command begins with it.
+// How many bytes of operands follow a code; 0 where it has none, or no command begins with it.
 fn operand_size(code: u8) -> u8
     ensures { λ r. ⌜ r ≡ operandSize code ⌝ }
 {
-    if 96 <= code {
-        return 0;
+    match code {
+        0x01 => 1,
+        0x02 => 1,
+        0x10 => 8,
+        0x11 => 8,
+        0x20 => 4,
+        0x21 => 4,
+        0x23 => 8,
+        0x25 => 4,
+        0x30 => 4,
+        0x31 => 8,
+        0x32 => 2,
+        0x33 => 2,
+        0x34 => 2,
+        0x36 => 6,
+        0x41 => 4,
+        0x42 => 2,
+        0x50 => 4,
+        0x51 => 2,
+        _ => 0,
     }
-    OPERANDS[(code / 16) as usize][(code % 16) as usize]
 }
 
 // The length of the text that the command at a place tells; 0 where it is none, or cut off.

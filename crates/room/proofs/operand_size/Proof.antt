@@ -1,34 +1,126 @@
--- A look into the table of operands' sizes.
-use mathlib.Core.Path.{refl, sym}
-use borrow.Author.Needs.{needs}
-use Rattle.room.specs.Commands.{operandSizes, operandSize}
-use Rattle.room.proofs.Passing.{no-operands}
+-- Each code's arm, and the one of all other codes.
+use mathlib.Core.Path.{refl}
+use borrow.Author.Tests.{ne-eqb}
+use Rattle.room.specs.Commands.{operandSize}
 use Rattle.room.proofs.operand_size.Statement.{statement}
 use Rattle.room.proofs.operand_size.Tie as tie
 
 returns : tie.Need-returns
-returns c = sym (no-operands _ (c .if1 .taken))
-
-cast-result : tie.Need-cast-result
-cast-result c = search needs
-
-cast-result-2 : tie.Need-cast-result-2
-cast-result-2 c = search needs
-
-mul-result : tie.Need-mul-result
-mul-result c = search needs
-
-index-1-result : tie.Need-index-1-result
-index-1-result c = search needs
-
-index-2-result : tie.Need-index-2-result
-index-2-result c = search needs
+unfolding operandSize
+returns c = rw (c .match .keys1) refl
 
 returns-2 : tie.Need-returns-2
-unfolding operandSize operandSizes
-returns-2 c = refl
+unfolding operandSize
+returns-2 c = rw (c .match .keys2) refl
+
+returns-3 : tie.Need-returns-3
+unfolding operandSize
+returns-3 c = rw (c .match .keys3) refl
+
+returns-4 : tie.Need-returns-4
+unfolding operandSize
+returns-4 c = rw (c .match .keys4) refl
+
+returns-5 : tie.Need-returns-5
+unfolding operandSize
+returns-5 c = rw (c .match .keys5) refl
+
+returns-6 : tie.Need-returns-6
+unfolding operandSize
+returns-6 c = rw (c .match .keys6) refl
+
+returns-7 : tie.Need-returns-7
+unfolding operandSize
+returns-7 c = rw (c .match .keys7) refl
+
+returns-8 : tie.Need-returns-8
+unfolding operandSize
+returns-8 c = rw (c .match .keys8) refl
+
+returns-9 : tie.Need-returns-9
+unfolding operandSize
+returns-9 c = rw (c .match .keys9) refl
+
+returns-10 : tie.Need-returns-10
+unfolding operandSize
+returns-10 c = rw (c .match .keys10) refl
+
+returns-11 : tie.Need-returns-11
+unfolding operandSize
+returns-11 c = rw (c .match .keys11) refl
+
+returns-12 : tie.Need-returns-12
+unfolding operandSize
+returns-12 c = rw (c .match .keys12) refl
+
+returns-13 : tie.Need-returns-13
+unfolding operandSize
+returns-13 c = rw (c .match .keys13) refl
+
+returns-14 : tie.Need-returns-14
+unfolding operandSize
+returns-14 c = rw (c .match .keys14) refl
+
+returns-15 : tie.Need-returns-15
+unfolding operandSize
+returns-15 c = rw (c .match .keys15) refl
+
+returns-16 : tie.Need-returns-16
+unfolding operandSize
+returns-16 c = rw (c .match .keys16) refl
+
+returns-17 : tie.Need-returns-17
+unfolding operandSize
+returns-17 c = rw (c .match .keys17) refl
+
+returns-18 : tie.Need-returns-18
+unfolding operandSize
+returns-18 c = rw (c .match .keys18) refl
+
+returns-19 : tie.Need-returns-19
+unfolding operandSize
+returns-19 c =
+    rw (
+      ne-eqb _ _ (c .match .rest .0 .0 .0 .0 .0 .0 .0 .0 .0 .0 .0 .0 .0 .0 .0 .0 .0 .1),
+      ne-eqb _ _ (c .match .rest .0 .0 .0 .0 .0 .0 .0 .0 .0 .0 .0 .0 .0 .0 .0 .0 .1),
+      ne-eqb _ _ (c .match .rest .0 .0 .0 .0 .0 .0 .0 .0 .0 .0 .0 .0 .0 .0 .0 .1),
+      ne-eqb _ _ (c .match .rest .0 .0 .0 .0 .0 .0 .0 .0 .0 .0 .0 .0 .0 .0 .1),
+      ne-eqb _ _ (c .match .rest .0 .0 .0 .0 .0 .0 .0 .0 .0 .0 .0 .0 .0 .1),
+      ne-eqb _ _ (c .match .rest .0 .0 .0 .0 .0 .0 .0 .0 .0 .0 .0 .0 .1),
+      ne-eqb _ _ (c .match .rest .0 .0 .0 .0 .0 .0 .0 .0 .0 .0 .0 .1),
+      ne-eqb _ _ (c .match .rest .0 .0 .0 .0 .0 .0 .0 .0 .0 .0 .1),
+      ne-eqb _ _ (c .match .rest .0 .0 .0 .0 .0 .0 .0 .0 .0 .1),
+      ne-eqb _ _ (c .match .rest .0 .0 .0 .0 .0 .0 .0 .0 .1),
+      ne-eqb _ _ (c .match .rest .0 .0 .0 .0 .0 .0 .0 .1),
+      ne-eqb _ _ (c .match .rest .0 .0 .0 .0 .0 .0 .1),
+      ne-eqb _ _ (c .match .rest .0 .0 .0 .0 .0 .1),
+      ne-eqb _ _ (c .match .rest .0 .0 .0 .0 .1),
+      ne-eqb _ _ (c .match .rest .0 .0 .0 .1),
+      ne-eqb _ _ (c .match .rest .0 .0 .1),
+      ne-eqb _ _ (c .match .rest .0 .1),
+      ne-eqb _ _ (c .match .rest .1),
+    ) refl
 
 pub operand-size-spec : {M : Type 1} → statement M
 operand-size-spec =
     tie.close
-    (tie.spec returns cast-result cast-result-2 mul-result index-1-result index-2-result returns-2)
+    (tie.spec
+    returns
+    returns-2
+    returns-3
+    returns-4
+    returns-5
+    returns-6
+    returns-7
+    returns-8
+    returns-9
+    returns-10
+    returns-11
+    returns-12
+    returns-13
+    returns-14
+    returns-15
+    returns-16
+    returns-17
+    returns-18
+    returns-19)
