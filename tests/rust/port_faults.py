@@ -20,8 +20,8 @@ TOP = pathlib.Path(__file__).resolve().parent.parent.parent
 RIGHT = "ok: the native program at -O3 ended and wrote what is expected"
 JSX, EMIT, SELF, PEN = "jsx/src/jsx_impl.rt", "emit/src/jsx_impl.rt", "emit/src/jsx_self.rt", "emit/src/pen.rt"
 LINES, ROOTS, CHARS, LOWERING = "jsx_text/src/lib.rt", "roots/src/check.rt", "text/src/chars.rt", "lowering/src/lib.rt"
-COMMENTS, SETTINGS, OPTIONS, PRAGMA = "settings/src/comments.rt", "settings/src/jsx_impl.rt", "settings/src/options.rt", "pragma/src/lib.rt"
-GROUPS, RECORDS, FINDING, NOTICES = "store/src/groups.rt", "store/src/record_tape.rt", "store/src/finding.rt", "emit/src/diagnostics.rt"
+COMMENTS, SETTINGS, OPTIONS, PRAGMA = "comments/src/lib.rt", "settings/src/jsx_impl.rt", "settings/src/options.rt", "pragma/src/lib.rt"
+GROUPS, RECORDS, FINDING, NOTICES = "records/src/groups.rt", "records/src/record_tape.rt", "records/src/finding.rt", "emit/src/diagnostics.rt"
 
 FAULTS = [
     ("a sole spread child is bare", JSX, "    if spread { 1 } else { 0 }", "    if spread { 0 } else { 0 }"),

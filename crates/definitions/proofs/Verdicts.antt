@@ -3,8 +3,9 @@
 --     length-laid, take-laid       the target after
 --     sound-parts, sound-whole     a sound state is one in which six things hold
 --     Taken, root-taken            what is known of an accepted root
+--     records-taken                records that are accepted have room
 -- Assumes nothing.
-use mathlib.Core.Path.{_≡_, refl, ap}
+use mathlib.Core.Path.{_≡_, refl, ap, subst}
 use mathlib.Core.Bool.{Bool, true, false, not, _&&_}
 use mathlib.Core.List.{List, [], _++_}
 use Prim.Native.Nat.{ℕ, _+_, _-_, _≤_}
@@ -20,8 +21,9 @@ use Rattle.definitions.specs.declared.state.State.{State}
 use Rattle.definitions.specs.Judging.{Parsed, done, stop, Judged, accepted, refused, refuse, refuseAt, read}
 use Rattle.definitions.specs.Tree.{Root}
 use Rattle.definitions.specs.Reading.{readRoot}
+use Rattle.definitions.specs.Records.{recordTape}
 use Rattle.definitions.specs.States.{spansBorneOut, formsBorneOut, live, imports, numberedFrom, unrepeated, allBindable, sound, overfilled}
-use Rattle.definitions.specs.Entries.{laid, Lowered, loweredAfter, fitted, judgeRoot}
+use Rattle.definitions.specs.Entries.{laid, Lowered, loweredAfter, fitted, judgeRoot, judgeRecords}
 use Rattle.definitions.proofs.Counting.{never, either-false}
 
 -- ---- tests that refuse
@@ -145,3 +147,15 @@ module _ (text : List ℕ) (s : State) (tape : List ℕ) (callRoom noticeRoom : 
         calls-fit = let q : length (m .calls) ≡ length (l .calls) = ap (λ (x : Lowered). length (x .calls)) i in omega arith;
         notices-fit = let q : length (m .notices) ≡ length (l .notices) = ap (λ (x : Lowered). length (x .notices)) i in omega arith;
       }
+
+-- ---- written records
+
+pub records-taken : (text : List ℕ) (s : State) (k : ℕ) (t : List ℕ) → judgeRecords text s k ≡ accepted t → length t ≤ k
+unfolding judgeRecords
+records-taken text s k t e =
+    let a = past _ _ _ _ e in
+    let b = past-at _ _ _ _ (a .1) in
+    let c = past _ _ _ _ (b .1) in
+    let d = past _ _ _ _ (c .1) in
+    let tape = recordTape (s .settings .mode) (live s) in
+    subst (λ (l : List ℕ). length l ≤ k) (accepted-same tape t (d .1)) (ltb-false k (length tape) (d .0))

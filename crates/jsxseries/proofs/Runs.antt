@@ -10,7 +10,6 @@ use mathlib.Core.List.{List, [], _∷_, _++_}
 use Prim.Native.Nat.{ℕ, _+_, _-_, _≤_}
 use native.Mathlib.Omega.{arith}
 use lib.ListN.{length, take, length-take}
-use borrow.Author.Tests.{ltb-false}
 use Rattle.definitions.specs.declared.options.Settings.{Settings}
 use Rattle.definitions.specs.declared.state.State.{State}
 use Rattle.definitions.specs.declared.state.Answer.the-variants as answer
@@ -19,11 +18,9 @@ use Rattle.definitions.specs.declared.state.Written.{Written}
 use Rattle.definitions.specs.declared.state.Written.the-variants as written
 use Rattle.definitions.specs.Judging.{Judged, accepted, refused}
 use Rattle.definitions.specs.Opening.{judgeOpening}
-use Rattle.definitions.specs.Records.{recordTape}
-use Rattle.definitions.specs.States.{live}
 use Rattle.definitions.specs.Entries.{openedBy, opened, Lowered, judgeRoot, moved, outcomeBy, rootOutcome, judgeRecords, recordsAnswer}
 use Rattle.definitions.specs.Series.{World, next, series}
-use Rattle.definitions.proofs.Verdicts.{past, past-at, accepted-same, length-laid, root-taken}
+use Rattle.definitions.proofs.Verdicts.{length-laid, root-taken, records-taken}
 use Rattle.definitions.proofs.RootSeries.{series-append}
 use Rattle.jsxseries.specs.declared.series.Next.{Next}
 use Rattle.jsxseries.specs.declared.series.Next.the-variants.{Root}
@@ -86,16 +83,6 @@ job-fresh job text x e a = subst (λ (y : Stepped). (y .state .calls ≡ 0) × (
     go (refused r) = (refl, refl)
 
 -- ---- records
-
-records-taken : (text : List ℕ) (s : State) (k : ℕ) (t : List ℕ) → judgeRecords text s k ≡ accepted t → length t ≤ k
-unfolding judgeRecords
-records-taken text s k t e =
-    let a = past _ _ _ _ e in
-    let b = past-at _ _ _ _ (a .1) in
-    let c = past _ _ _ _ (b .1) in
-    let d = past _ _ _ _ (c .1) in
-    let tape = recordTape (s .settings .mode) (live s) in
-    subst (λ (l : List ℕ). length l ≤ k) (accepted-same tape t (d .1)) (ltb-false k (length tape) (d .0))
 
 pub records-within : (text : List ℕ) (s : State) (k n : ℕ) (w : Written) → w ≡ recordsAnswer (judgeRecords text s k) → w ≡ written.Accepted n → n ≤ k
 unfolding recordsAnswer

@@ -8,7 +8,6 @@ use mathlib.Core.List.{List, _++_}
 use Prim.Native.Nat.{ℕ, _+_, _-_, _≤_, zero-le}
 use native.Mathlib.Omega.{arith}
 use lib.ListN.{length, take, length-take}
-use borrow.Author.Tests.{ltb-false}
 use Rattle.tape.specs.declared.refusal.Refusal.{Refusal}
 use Rattle.definitions.specs.declared.options.Settings.{Settings}
 use Rattle.definitions.specs.declared.state.State.{State}
@@ -18,11 +17,9 @@ use Rattle.definitions.specs.declared.state.Written.{Written}
 use Rattle.definitions.specs.declared.state.Written.the-variants as written
 use Rattle.definitions.specs.Judging.{Judged, accepted, refused}
 use Rattle.definitions.specs.Opening.{judgeOpening}
-use Rattle.definitions.specs.Records.{recordTape}
-use Rattle.definitions.specs.States.{live}
 use Rattle.definitions.specs.Entries.{laid, openedBy, opened, openState, Lowered, judgeRoot, moved, outcomeBy, rootOutcome, judgeRecords, recordsAnswer, recordsTarget}
 use Rattle.definitions.specs.Program.{Printed, printed, printedRefusal, room, printRecords, printRoot, printOpening, jsxtape}
-use Rattle.definitions.proofs.Verdicts.{past, past-at, accepted-same, take-laid, root-taken}
+use Rattle.definitions.proofs.Verdicts.{take-laid, root-taken, records-taken}
 use Rattle.jsxtape.specs.declared.job.Ended.{Ended}
 use Rattle.jsxtape.specs.declared.job.Ended.the-variants as ended
 use Rattle.jsxtape.specs.Endings.{shown, most, Ends, Fresh, Rooms}
@@ -34,16 +31,6 @@ unfolding shown most
 turned-away p r cs ns rs e = record { shows = sym e; within = zero-le }
 
 -- ---- records
-
-records-taken : (text : List ℕ) (s : State) (k : ℕ) (t : List ℕ) → judgeRecords text s k ≡ accepted t → length t ≤ k
-unfolding judgeRecords
-records-taken text s k t e =
-    let a = past _ _ _ _ e in
-    let b = past-at _ _ _ _ (a .1) in
-    let c = past _ _ _ _ (b .1) in
-    let d = past _ _ _ _ (c .1) in
-    let tape = recordTape (s .settings .mode) (live s) in
-    subst (λ (l : List ℕ). length l ≤ k) (accepted-same tape t (d .1)) (ltb-false k (length tape) (d .0))
 
 records-by : (w : Written) (j : Judged (List ℕ)) (r : Refusal) → w ≡ recordsAnswer j → w ≡ written.Refused r → j ≡ refused r
 unfolding recordsAnswer

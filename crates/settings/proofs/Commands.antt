@@ -1,5 +1,4 @@
 -- The opening tape, command by command.
---     comments-step          the comments from a place of a tape on
 --     Reads                  the whole tape gives what its rest gives, from what has been read; each event of the loop is a law from Reads to
 --                            Reads (onward) or to the answer (at-end, at-fault)
 -- Assumes nothing.
@@ -8,10 +7,10 @@ use mathlib.Core.Bool.{Bool, true, false, cond, _&&_}
 use mathlib.Core.List.{List, [], _∷_, _++_, append-nil, append-assoc}
 use Prim.Native.Nat.{ℕ, zero, suc, _+_, _≤_, _<_}
 use native.Mathlib.Omega.{arith}
-use lib.ListN.{length, drop, getD, length-drop}
-use lib.Seq.{drop-drop, getD-drop}
+use lib.ListN.{length, drop, length-drop}
+use lib.Seq.{drop-drop}
 use lib.Dec.{eqb, ltb}
-use borrow.Author.Tests.{ltb-false, ne-eqb}
+use borrow.Author.Tests.{ltb-false}
 use Rattle.text.specs.declared.spans.Span.{Span}
 use Rattle.text.specs.declared.spans.Bounds.{Bounds}
 use Rattle.text.specs.declared.spans.Bounds.the-variants as bounds
@@ -24,56 +23,14 @@ use Rattle.tape.specs.Numbers.{spanAt}
 use Rattle.commands.specs.Opening.{optionWith, optionCommand}
 use Rattle.definitions.specs.declared.options.Options.{Options}
 use Rattle.definitions.specs.Judging.{Parsed, done, stop, from, spanned, Judged, accepted, refused, read}
-use Rattle.definitions.specs.Comments.{withComment, withComments}
+use Rattle.definitions.specs.Comments.{withComments}
 use Rattle.definitions.specs.Opening.{Opening, bare, withPragma, withPragmaFrag, withImportSource, andComment, optionBy, optionsFrom, readOpening, optionsOf, settingsOf, pragmasChecked}
+use Rattle.comments.specs.Tapes.{commentsOf}
+use Rattle.comments.proofs.Tapes.{comments-front}
 use Rattle.settings.specs.declared.opening.Next.{Next}
 use Rattle.settings.specs.declared.opening.Next.the-variants as next
 use Rattle.settings.specs.declared.opening.OpeningRead.the-variants as outcome
-use Rattle.settings.specs.Tapes.{commentsOf, optionsBefore, spannedBy, nextBy, judgedOptions, judgedBy, behindFlags, openedTape}
-
--- ---- the comments among the commands
-comments-front : (t : List ℕ) → 5 ≤ length t
-    → commentsOf t ≡ cond (eqb (getD t 0 0) 0x60) (spanAt t 1 ∷ commentsOf (drop 5 t)) (commentsOf (drop 5 t))
-unfolding commentsOf
-comments-front [] h = absurd (omega arith)
-comments-front (a ∷ []) h = absurd (omega arith)
-comments-front (a ∷ b ∷ []) h = absurd (omega arith)
-comments-front (a ∷ b ∷ c ∷ []) h = absurd (omega arith)
-comments-front (a ∷ b ∷ c ∷ d ∷ []) h = absurd (omega arith)
-comments-front (a ∷ b ∷ c ∷ d ∷ e ∷ t) h = refl
-
-comments-short : (t : List ℕ) → length t < 5 → commentsOf t ≡ []
-unfolding commentsOf
-comments-short [] h = refl
-comments-short (a ∷ []) h = refl
-comments-short (a ∷ b ∷ []) h = refl
-comments-short (a ∷ b ∷ c ∷ []) h = refl
-comments-short (a ∷ b ∷ c ∷ d ∷ []) h = refl
-comments-short (a ∷ b ∷ c ∷ d ∷ e ∷ t) h = absurd (omega arith)
-
-module _ (text : List ℕ) (p : Options) (tape : List ℕ) (i : ℕ) where
-  module _ (h : i + 5 ≤ length tape) where
-    comments-step : commentsOf (drop i tape)
-        ≡ cond (eqb (getD tape i 0) 0x60) (spanAt tape (i + 1) ∷ commentsOf (drop (i + 5) tape)) (commentsOf (drop (i + 5) tape))
-    comments-step =
-        let a : i + 0 ≡ i = omega arith in
-        let b : i + 2 ≡ i + 1 + 1 = omega arith in
-        let c : i + 3 ≡ i + 1 + 2 = omega arith in
-        let d : i + 4 ≡ i + 1 + 2 + 1 = omega arith in
-        comments-front (drop i tape) (omega (arith, length-drop i tape)) ∙ simp (getD-drop, drop-drop, a, b, c, d)
-
-    pub comment-here : getD tape i 0 ≡ 0x60
-        → withComments text p (commentsOf (drop i tape)) ≡ withComments text (withComment text p (spanAt tape (i + 1))) (commentsOf (drop (i + 5) tape))
-    unfolding withComments
-    comment-here e = rw (comments-step, e)
-
-    pub comment-elsewhere : (getD tape i 0 ≡ 0x60 → ⊥) → withComments text p (commentsOf (drop i tape))
-        ≡ withComments text p (commentsOf (drop (i + 5) tape))
-    comment-elsewhere f = rw (comments-step, ne-eqb (getD tape i 0) 0x60 f)
-
-  pub comments-over : length tape < i + 5 → withComments text p (commentsOf (drop i tape)) ≡ p
-  unfolding withComments
-  comments-over h = rw (comments-short (drop i tape) (omega (arith, length-drop i tape)))
+use Rattle.settings.specs.Tapes.{optionsBefore, spannedBy, nextBy, judgedOptions, judgedBy, behindFlags, openedTape}
 
 -- ---- what stands at the front of a tape where a command was read
 unfoldable pub Front : List ℕ → OptionCommand → Type 0

@@ -1,3 +1,1 @@
-pub mod Signs
-pub mod Values
 pub mod Commands

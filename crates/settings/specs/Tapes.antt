@@ -1,10 +1,7 @@
 -- What the walks over the opening tape give, in the terms of document 01's definitions.
 use Prim.Native.Nat.{ℕ, suc}
-use mathlib.Core.Bool.{cond}
-use mathlib.Core.List.{List, [], _∷_}
+use mathlib.Core.List.{List}
 use lib.ListN.{length, drop, replicate}
-use lib.Dec.{eqb}
-use Rattle.text.specs.declared.spans.Span.{Span}
 use Rattle.text.specs.declared.spans.Bounds.{Bounds}
 use Rattle.text.specs.declared.spans.Bounds.the-variants as bounds
 use Rattle.text.specs.Spans.{boundsOf}
@@ -12,7 +9,6 @@ use Rattle.commands.specs.declared.opening.OptionCommand.{OptionCommand}
 use Rattle.commands.specs.declared.opening.OptionCommand.the-variants as option
 use Rattle.tape.specs.declared.refusal.Fault.the-variants.{Grammar, Outside, Cuts}
 use Rattle.tape.specs.declared.refusal.Refusal.the-variants as refusal
-use Rattle.tape.specs.Numbers.{spanAt}
 use Rattle.definitions.specs.declared.options.Optional.{Optional}
 use Rattle.definitions.specs.declared.options.Optional.the-variants.{Absent, Present}
 use Rattle.definitions.specs.declared.options.Options.{Options}
@@ -23,19 +19,11 @@ use Rattle.definitions.specs.Options.{flagsOf, conform}
 use Rattle.definitions.specs.Comments.{withComments}
 use Rattle.definitions.specs.Opening.{Opening, bare, optionsFrom, readOpening, optionsOf, settingsOf, pragmasChecked}
 use Rattle.definitions.specs.Entries.{noRecord}
+use Rattle.comments.specs.Tapes.{commentsOf}
 use Rattle.settings.specs.declared.opening.Next.{Next}
 use Rattle.settings.specs.declared.opening.Next.the-variants as next
 use Rattle.settings.specs.declared.opening.OpeningRead.{OpeningRead}
 use Rattle.settings.specs.declared.opening.OpeningRead.the-variants as outcome
-
--- the comments among commands of five bytes
-unfoldable pub commentsOf : List ℕ → List Span
-commentsOf [] = []
-commentsOf (c ∷ []) = []
-commentsOf (c ∷ s ∷ []) = []
-commentsOf (c ∷ s ∷ t ∷ []) = []
-commentsOf (c ∷ s ∷ t ∷ l ∷ []) = []
-commentsOf (c ∷ s ∷ t ∷ l ∷ m ∷ rest) = cond (eqb c 0x60) (spanAt (s ∷ t ∷ l ∷ m ∷ []) 0 ∷ commentsOf rest) (commentsOf rest)
 
 -- the options before the comments
 unfoldable pub optionsBefore : Opening → Options

@@ -1,5 +1,4 @@
 // Opening a job: the options of the opening tape, what its comments change of them, and the settings that follow.
-mod comments;
 pub mod jsx_impl;
 pub mod opening;
 pub mod options;

@@ -23,7 +23,7 @@ use Rattle.definitions.specs.Store.{numberIn, isBound}
 use Rattle.definitions.specs.Entries.{Lowered, recordsFrom, moved}
 use Rattle.store.specs.declared.module_imports.Store.{Store}
 use Rattle.store.specs.Adding.{things, fullOf, foundIn, madeIn, added, Holds, Adds}
-use Rattle.store.proofs.Numbers.{nowhere, number-le}
+use Rattle.records.proofs.Numbers.{nowhere, number-le}
 use Rattle.store.proofs.Growing.{bound-there, bound-new, imports-from, length-from, from-append}
 
 -- ---- by the code's tests

@@ -17,7 +17,7 @@ use Rattle.definitions.specs.declared.records.Record.{Record}
 use Rattle.definitions.specs.Store.{numberIn, isBound, canBind}
 use Rattle.definitions.specs.States.{imports, numberedFrom, unrepeated, allBindable}
 use Rattle.store.specs.Following.{mayFollow, following}
-use Rattle.store.proofs.Numbers.{nowhere}
+use Rattle.records.proofs.Numbers.{nowhere}
 
 -- the code's tests: b that the number is the place, number the place of the thing among those before, can that the settings bind it
 module _ (s : Settings) (a : List Record) (i n : ℕ) (h : i < n) (k : n ≤ length a) (number : ℕ) (can : Bool)

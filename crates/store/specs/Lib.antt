@@ -1,4 +1,2 @@
 pub mod Adding
 pub mod Following
-pub mod Grouping
-pub mod Tape

@@ -8,7 +8,6 @@ ghost use lib.ListN.{take};
 ghost use Rattle.definitions.specs.Store.{sourceOf, canName, canImport, canRequire, canBind};
 ghost use Rattle.definitions.specs.States.{inOrder, borneOut, spansBorneOut, rootNumber, sameForm, formsBorneOut, sound, overfilled};
 ghost use Rattle.store.specs.Following.{following};
-use crate::finding::number_in;
 use definitions::options::Form;
 use definitions::options::Mode;
 use definitions::options::Optional;
@@ -19,6 +18,7 @@ use definitions::records::Import;
 use definitions::records::Record;
 use definitions::state::State;
 use pragma::form_under;
+use records::finding::number_in;
 use text::spans::Bounds;
 use text::spans::span_bounds;
 

@@ -1,6 +1,3 @@
-// What a job binds: the store of imports, the record tape, and which states are forged.
-mod finding;
+// What a job binds: the store of imports, writing its records, and which states are forged.
 pub mod forged;
-mod groups;
 pub mod module_imports;
-mod record_tape;

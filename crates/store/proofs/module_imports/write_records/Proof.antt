@@ -8,7 +8,7 @@ use Rattle.text.proofs.Lists.{told}
 use Rattle.text.specs.declared.bytes.Found.the-variants.{Nothing}
 use Rattle.text.specs.Utf8.{firstIll}
 use Rattle.definitions.specs.States.{live, sound}
-use Rattle.store.proofs.Grouping.{bindable-known}
+use Rattle.records.proofs.Grouping.{bindable-known}
 use Rattle.store.proofs.Soundness.{sound-few, sound-bindable}
 use Rattle.store.proofs.Writing.{too-long, ill-formed, unsound, judged}
 use Rattle.store.proofs.module_imports.write_records.Statement.{statement}

@@ -1,0 +1,3 @@
+mod Signs
+mod Values
+pub mod Tapes

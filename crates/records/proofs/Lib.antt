@@ -1,0 +1,4 @@
+pub mod Numbers
+pub mod Grouping
+mod Tape
+pub mod Writing
