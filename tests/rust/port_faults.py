@@ -18,10 +18,10 @@ from model import run
 
 TOP = pathlib.Path(__file__).resolve().parent.parent.parent
 RIGHT = "ok: the native program at -O3 ended and wrote what is expected"
-JSX, EMIT, SELF, PEN = "jsx/src/jsx_impl.rt", "emit/src/jsx_impl.rt", "emit/src/jsx_self.rt", "emit/src/pen.rt"
+JSX, EMIT, SELF, PEN, STRINGS = "jsx/src/jsx_impl.rt", "emit/src/jsx_impl.rt", "emit/src/jsx_self.rt", "pen/src/pen.rt", "pen/src/strings.rt"
 LINES, ROOTS, CHARS, LOWERING = "jsx_text/src/lib.rt", "roots/src/check.rt", "text/src/chars.rt", "lowering/src/lib.rt"
 COMMENTS, SETTINGS, OPTIONS, PRAGMA = "settings/src/comments.rt", "settings/src/jsx_impl.rt", "settings/src/options.rt", "pragma/src/lib.rt"
-GROUPS, RECORDS, FINDING, NOTICES = "store/src/groups.rt", "store/src/record_tape.rt", "store/src/finding.rt", "emit/src/diagnostics.rt"
+GROUPS, RECORDS, FINDING, NOTICES = "store/src/groups.rt", "store/src/record_tape.rt", "store/src/finding.rt", "pen/src/diagnostics.rt"
 
 FAULTS = [
     ("a sole spread child is bare", JSX, "    if spread { 1 } else { 0 }", "    if spread { 0 } else { 0 }"),
@@ -50,7 +50,7 @@ FAULTS = [
     ("createElement from the runtime source", EMIT, "    if name == 1 { 0 } else { 1 }", "    if name == 1 { 1 } else { 1 }"),
     ("a hyphen is no matter", EMIT, "find_byte(name, 0x2d)", "find_byte(name, 0x2f)"),
     ("__proto counts as __proto__", EMIT, 'b"__proto__")', 'b"__prot")'),
-    ("an empty piece is written", EMIT, "    if span.len == 0 {\n        return pen;\n    }\n", ""),
+    ("an empty piece is written", STRINGS, "    if span.len == 0 {\n        return pen;\n    }\n", ""),
     ("namespaced tags are never noticed", EMIT, "            if settings.options.flags.throw_if_namespace {", "            if false & settings.options.flags.throw_if_namespace {"),
     ("the names of a notice are swapped", NOTICES, "put_span(notices, at, namespace);", "put_span(notices, at, name);"),
     ("a class without superclass forbids this", SELF, "    heritage != 2\n", "    heritage == 0\n"),

@@ -19,8 +19,8 @@ use Rattle.definitions.specs.Tree.{Name, Node, element, fragment, Attributes, C
 use Rattle.definitions.specs.Reading.{nameAt, attributesAt, childrenAt, elementAt, fragmentAt}
 use Rattle.definitions.specs.Lowering.{Context, Output, put, putByte, putOver, calleeNamed, pureByte, automaticName, staticChildren, isClassic, classicElement, fragmentTag, objectOf, loneSpreadOr, noKey, selfOutput, sourceOutput, lowerAttributes, lowerKey, lowerNode, lowerName, lowerChildren}
 use Rattle.definitions.specs.Store.{createElement}
-use Rattle.emit.specs.declared.pen.Pen.{Pen}
-use Rattle.emit.specs.Emitting.{Called, Produced}
+use Rattle.pen.specs.declared.pen.Pen.{Pen}
+use Rattle.pen.specs.Emitting.{Called, Produced}
 use Rattle.roots.proofs.Behind.{part, part-length}
 use Rattle.jsx.specs.declared.jsx_impl.Items.{Items}
 use Rattle.jsx.specs.declared.jsx_impl.Props.{Props}

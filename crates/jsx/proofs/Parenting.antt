@@ -18,8 +18,8 @@ use Rattle.definitions.specs.Tree.{Node, Value, Children, noChildren, textChild
 use Rattle.definitions.specs.Reading.{elementAt, fragmentAt, valueAt, childrenAt}
 use Rattle.definitions.specs.JsxText.{jsxText}
 use Rattle.definitions.specs.Lowering.{Context, Output, put, putByte, putOver, formOf, survivors, hasSpread, lowerText, lowerNode, lowerValue, lowerChildren}
-use Rattle.emit.specs.declared.pen.Pen.{Pen}
-use Rattle.emit.specs.Emitting.{Called, Produced}
+use Rattle.pen.specs.declared.pen.Pen.{Pen}
+use Rattle.pen.specs.Emitting.{Called, Produced}
 use Rattle.roots.specs.InOrder.{Inside}
 use Rattle.jsx.specs.declared.jsx_impl.Items.{Items}
 use Rattle.jsx.specs.Parts.{Written, Countable, IsText, TextWritten, Step, goes, Moves, ChildStep, ChildrenEnd, ChildrenGo, ChildrenWritten, childrenObject}

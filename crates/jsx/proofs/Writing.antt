@@ -14,10 +14,10 @@ use Rattle.definitions.specs.Calls.{Bare, bytesOf, callBytes, noticeBytes, valu
 use Rattle.definitions.specs.Tree.{Value}
 use Rattle.definitions.specs.Lowering.{Context, Output, notify, put, commandsOf, noticesOf, isKey, hasValue, keyNotice, lowerText}
 use Rattle.definitions.specs.Store.{boundBy, boundAfter, numbered, numberedAll}
-use Rattle.emit.specs.declared.pen.Pen.{Pen}
-use Rattle.emit.specs.Emitting.{callsFrom, noticesFrom, boundFrom, Emitted, Called, Noticed, Produced}
+use Rattle.pen.specs.declared.pen.Pen.{Pen}
+use Rattle.pen.specs.Emitting.{callsFrom, noticesFrom, boundFrom, Emitted, Called, Noticed, Produced}
 use Rattle.jsx_text.specs.TextBytes.{textBytes}
-use Rattle.emit.proofs.Emitting.{emitted-none, emitted-then, emitted-over, standing-full}
+use Rattle.pen.proofs.Emitting.{emitted-none, emitted-then, emitted-over, standing-full}
 use Rattle.tape.proofs.Targets.{wrote-small}
 use Rattle.jsx_text.proofs.Unbound.{text-anywhere, text-binds-nothing, text-silent}
 

@@ -13,8 +13,8 @@ use Rattle.definitions.specs.Tree.{Name, Node, Attributes, noAttributes, Value,
 use Rattle.definitions.specs.Reading.{nameAt, attributesAt, valueAt, childrenAt}
 use Rattle.definitions.specs.JsxText.{jsxText}
 use Rattle.definitions.specs.Lowering.{Context, Output, put, someLine, lowerText, formOf, childrenProperty, selfOutput, sourceOutput, noKey, classicCall, automaticCall, objectOf, fragmentTag, lowerName, keyAfterSpread, isLast, putOver, survivors, hasSpread, lowerAttributes, lowerKey, lowerValue, lowerChildren, loneSpreadOr}
-use Rattle.emit.specs.declared.pen.Pen.{Pen}
-use Rattle.emit.specs.Emitting.{Called, Produced}
+use Rattle.pen.specs.declared.pen.Pen.{Pen}
+use Rattle.pen.specs.Emitting.{Called, Produced}
 use Rattle.jsx.specs.declared.jsx_impl.Items.{Items}
 use Rattle.jsx.specs.declared.jsx_impl.Props.{Props}
 use Rattle.jsx.specs.declared.jsx_impl.Lone.{Lone}
