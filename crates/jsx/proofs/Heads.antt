@@ -20,7 +20,7 @@ use Rattle.emit.specs.declared.jsx_self.Head.{Head}
 use Rattle.pen.specs.Emitting.{Produced}
 use Rattle.emit.specs.Heads.{NodeAt, element-at, fragment-at, HeadOf}
 use Rattle.jsx.specs.Parts.{context}
-use Rattle.jsx.proofs.Inversions.{opened-done}
+use Rattle.parts.proofs.Inversions.{opened-done}
 use Rattle.jsx.proofs.Parenting.{countable, ElementWritten, FragmentWritten}
 
 -- ---- the element or fragment at the front
