@@ -1,10 +1,5 @@
-pub mod Outputs
-pub mod Overwriting
-pub mod Emitting
-pub mod Commands
 pub mod Readings
 pub mod Members
 pub mod Names
 pub mod Properties
 pub mod RootHeads
-pub mod Measuring

@@ -20,10 +20,10 @@ use Rattle.definitions.specs.Judging.{Parsed, done, map, from}
 use Rattle.definitions.specs.Reading.{membersBy, membersAt}
 use Rattle.definitions.specs.Calls as call
 use Rattle.definitions.specs.Lowering.{Output, putSpan, members}
-use Rattle.emit.specs.declared.pen.Pen.{Pen}
-use Rattle.emit.specs.Emitting.{Called}
+use Rattle.pen.specs.declared.pen.Pen.{Pen}
+use Rattle.pen.specs.Emitting.{Called}
 use Rattle.emit.proofs.Readings.{stopped, named-done, map-done, from-done}
-use Rattle.emit.proofs.Emitting.{called-none, called-then, called-as}
+use Rattle.pen.proofs.Emitting.{called-none, called-then, called-as}
 
 -- ---- reading
 

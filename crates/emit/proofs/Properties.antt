@@ -26,10 +26,10 @@ use Rattle.definitions.specs.Tree.{Property, unnamed, propName}
 use Rattle.definitions.specs.Reading.{propertiesBy, propertiesAt}
 use Rattle.definitions.specs.Calls as call
 use Rattle.definitions.specs.Lowering.{Context, Output, putOver, isProto, hasProto, carried}
-use Rattle.emit.specs.declared.pen.Pen.{Pen}
-use Rattle.emit.specs.Emitting.{Called}
+use Rattle.pen.specs.declared.pen.Pen.{Pen}
+use Rattle.pen.specs.Emitting.{Called}
 use Rattle.emit.proofs.Readings.{stopped, spanned-done, map-done, from-done}
-use Rattle.emit.proofs.Emitting.{called-none, called-then, called-as}
+use Rattle.pen.proofs.Emitting.{called-none, called-then, called-as}
 
 -- ---- reading
 

@@ -1,4 +1,4 @@
-// The parts of a call (jsx_impl.rs): strings and names, attribute names, callees, object literals.
+// The parts of a call (jsx_impl.rs): names, attribute names, callees, object literals.
 ghost use mathlib.Core.Path.{_≡_};
 ghost use mathlib.Core.List.{List, _++_};
 ghost use Prim.Native.Nat.{ℕ, _≤_, _<_};
@@ -11,15 +11,8 @@ ghost use Rattle.definitions.specs.Tree.{Name, Property};
 ghost use Rattle.definitions.specs.Reading.{membersAt, nameAt, propertiesAt};
 ghost use Rattle.definitions.specs.Calls as call;
 ghost use Rattle.definitions.specs.Store.{sourceOf};
-ghost use Rattle.definitions.specs.Lowering.{Context, put, putByte, piece, quoted, colonized, members, lowerName, imported, calleeNamed, fragmentTag, attributeName, hasProto, carried, lowerLiteral, pureByte, automaticName, staticChildren, noKey};
-ghost use Rattle.emit.specs.Emitting.{Called, Produced};
-use crate::diagnostics::namespace_does_not_support;
-use crate::pen::Pen;
-use crate::pen::put_bare;
-use crate::pen::put_binding;
-use crate::pen::put_byte;
-use crate::pen::put_over;
-use crate::pen::put_spanned;
+ghost use Rattle.definitions.specs.Lowering.{Context, put, putByte, members, lowerName, imported, calleeNamed, fragmentTag, attributeName, hasProto, carried, lowerLiteral, pureByte, automaticName, staticChildren, noKey};
+ghost use Rattle.pen.specs.Emitting.{Called, Produced};
 use commands::root::MemberCommand;
 use commands::root::NameCommand;
 use commands::root::PropertyCommand;
@@ -29,41 +22,20 @@ use commands::root::property_command_at;
 use definitions::options::Mode;
 use definitions::options::Settings;
 use definitions::records::Import;
+use pen::diagnostics::namespace_does_not_support;
+use pen::pen::Pen;
+use pen::pen::put_bare;
+use pen::pen::put_binding;
+use pen::pen::put_byte;
+use pen::pen::put_over;
+use pen::pen::put_spanned;
+use pen::strings::put_namespaced;
+use pen::strings::put_string;
 use text::bytes::Found;
 use text::bytes::find_byte;
 use text::bytes::same;
 use text::spans::Span;
 use text::spans::part;
-
-// A piece of a string: a span, or nothing where it is empty.
-pub fn put_piece(calls: &mut [u8], pen: Pen, span: Span) -> Pen
-    ensures { λ r. ⌜ Called (piece span) (now (calls .entry)) (now (calls .exit)) pen r ⌝ }
-{
-    if span.len == 0 {
-        return pen;
-    }
-    put_spanned(calls, pen, 0x8b, span)
-}
-
-// A string of one span.
-pub fn put_string(calls: &mut [u8], pen: Pen, span: Span) -> Pen
-    ensures { λ r. ⌜ Called (quoted (piece span)) (now (calls .entry)) (now (calls .exit)) pen r ⌝ }
-{
-    let begun = put_bare(calls, pen, 0x8a);
-    let inside = put_piece(calls, begun, span);
-    put_bare(calls, inside, 0x8d)
-}
-
-// A string of a namespace, a colon and a name.
-pub fn put_namespaced(calls: &mut [u8], pen: Pen, namespace: Span, name: Span) -> Pen
-    ensures { λ r. ⌜ Called (colonized namespace name) (now (calls .entry)) (now (calls .exit)) pen r ⌝ }
-{
-    let begun = put_bare(calls, pen, 0x8a);
-    let front = put_piece(calls, begun, namespace);
-    let parted = put_bare(calls, front, 0x8e);
-    let back = put_piece(calls, parted, name);
-    put_bare(calls, back, 0x8d)
-}
 
 // The properties of a name: what they are members of has been written.
 fn transform_jsx_member_expression(tape: &[u8], calls: &mut [u8], pen: Pen) -> Pen

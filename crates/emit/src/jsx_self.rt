@@ -8,15 +8,15 @@ ghost use Rattle.definitions.specs.Judging.{done};
 ghost use Rattle.definitions.specs.Tree.{Root};
 ghost use Rattle.definitions.specs.Reading.{Scoped, scopesAt, readRoot};
 ghost use Rattle.definitions.specs.Lowering.{Context, selfOutput, noSuperClass};
-ghost use Rattle.emit.specs.Emitting.{Called};
+ghost use Rattle.pen.specs.Emitting.{Called};
 ghost use Rattle.emit.specs.Heads.{ScopesOf, HeadOf};
-use crate::pen::Pen;
-use crate::pen::put_bare;
 use commands::root::HeritageCommand;
 use commands::root::ScopeCommand;
 use commands::root::heritage_command_at;
 use commands::root::scope_command_at;
 use definitions::options::Settings;
+use pen::pen::Pen;
+use pen::pen::put_bare;
 
 // Whether the first scope that is no block and no arrow is a constructor, and how many bytes the scopes take.
 pub struct Scopes {

@@ -2,11 +2,11 @@
 ghost use mathlib.Core.Path.{_≡_};
 ghost use Prim.Native.Nat.{_<_};
 ghost use Rattle.definitions.specs.Lowering.{Context, sourceOutput};
-ghost use Rattle.emit.specs.Emitting.{Called};
-use crate::pen::Pen;
-use crate::pen::put_source;
+ghost use Rattle.pen.specs.Emitting.{Called};
 use commands::root::Place;
 use definitions::options::Settings;
+use pen::pen::Pen;
+use pen::pen::put_source;
 
 // Where the element stands, if the plugin is on.
 pub fn source_output(settings: Settings, calls: &mut [u8], pen: Pen, place: Place) -> Pen

@@ -1,6 +1,4 @@
-// Writing calls and notices, command by command.
-pub mod diagnostics;
+// Writing the parts of a call.
 pub mod jsx_impl;
 pub mod jsx_self;
 pub mod jsx_source;
-pub mod pen;

@@ -22,11 +22,12 @@ use Rattle.definitions.specs.Judging.{Parsed, done}
 use Rattle.definitions.specs.Tree.{Property, Attributes, attribute, Value}
 use Rattle.definitions.specs.Reading.{propertiesAt, attributesAt, valueAt}
 use Rattle.definitions.specs.Lowering.{Context, Output, put, putOver, putSpan, quoted, piece, colonized, isFound, isKey, hasValue, keyNotice, attributeName, lowerLiteral, lowerAttributes, lowerKey, lowerValue, noKey}
-use Rattle.emit.specs.declared.pen.Pen.{Pen}
-use Rattle.emit.specs.Emitting.{Called, Noticed, Produced}
-use Rattle.jsx.specs.declared.jsx_impl.Props.{Props}
-use Rattle.jsx.specs.Parts.{Written, LiteralWritten, Moves, someOutput, ends, goes, KeyFirst, other, first, KeyAt, no-key, key-at, AttributesEnd, AttributesGo, AttributeStep, AttributesWritten}
-use Rattle.jsx.proofs.Inversions.{Behind, Within, attributes-end, attributes-plain, attributes-namespaced, attributes-spread, attributes-literal}
+use Rattle.pen.specs.declared.pen.Pen.{Pen}
+use Rattle.pen.specs.Emitting.{Called, Noticed, Produced}
+use Rattle.parts.specs.declared.jsx_impl.Props.{Props}
+use Rattle.parts.specs.Promises.{LiteralWritten, someOutput}
+use Rattle.jsx.specs.Parts.{Written, Moves, ends, goes, KeyFirst, other, first, KeyAt, no-key, key-at, AttributesEnd, AttributesGo, AttributeStep, AttributesWritten}
+use Rattle.parts.proofs.Inversions.{Behind, Within, attributes-end, attributes-plain, attributes-namespaced, attributes-spread, attributes-literal}
 use Rattle.jsx.proofs.Writing.{none, along, called}
 use Rattle.jsx.proofs.Turns.{Left, left-start, left-goes, left-ends}
 use Rattle.jsx.proofs.Lowerings.{KeySoFar, key-start, key-goes, key-passed, property-written, classic-property}

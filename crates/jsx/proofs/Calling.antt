@@ -19,15 +19,16 @@ use Rattle.definitions.specs.Tree.{Name, Node, element, fragment, Attributes, C
 use Rattle.definitions.specs.Reading.{nameAt, attributesAt, childrenAt, elementAt, fragmentAt}
 use Rattle.definitions.specs.Lowering.{Context, Output, put, putByte, putOver, calleeNamed, pureByte, automaticName, staticChildren, isClassic, classicElement, fragmentTag, objectOf, loneSpreadOr, noKey, selfOutput, sourceOutput, lowerAttributes, lowerKey, lowerNode, lowerName, lowerChildren}
 use Rattle.definitions.specs.Store.{createElement}
-use Rattle.emit.specs.declared.pen.Pen.{Pen}
-use Rattle.emit.specs.Emitting.{Called, Produced}
+use Rattle.pen.specs.declared.pen.Pen.{Pen}
+use Rattle.pen.specs.Emitting.{Called, Produced}
 use Rattle.roots.proofs.Behind.{part, part-length}
-use Rattle.jsx.specs.declared.jsx_impl.Items.{Items}
-use Rattle.jsx.specs.declared.jsx_impl.Props.{Props}
-use Rattle.jsx.specs.declared.jsx_impl.Lone.{Lone}
-use Rattle.jsx.specs.declared.jsx_impl.Lone.the-variants as lone
-use Rattle.jsx.specs.Parts.{Written, Countable, Parts, KeyAt, SoleAt, LoneWithin, someOutput, AttributesWritten, ChildrenWritten, childrenObject, classicProperties, classicCallOf, automaticElement, classicFragment, automaticFragment}
-use Rattle.jsx.proofs.Inversions.{element-parts, fragment-parts}
+use Rattle.parts.specs.declared.jsx_impl.Items.{Items}
+use Rattle.parts.specs.declared.jsx_impl.Props.{Props}
+use Rattle.parts.specs.declared.jsx_impl.Lone.{Lone}
+use Rattle.parts.specs.declared.jsx_impl.Lone.the-variants as lone
+use Rattle.parts.specs.Promises.{SoleAt, LoneWithin, someOutput}
+use Rattle.jsx.specs.Parts.{Written, Countable, Parts, KeyAt, AttributesWritten, ChildrenWritten, childrenObject, classicProperties, classicCallOf, automaticElement, classicFragment, automaticFragment}
+use Rattle.jsx.proofs.Nesting.{element-parts, fragment-parts}
 use Rattle.jsx.proofs.Writing.{none, along, called, being, instead}
 use Rattle.jsx.proofs.Lowerings.{classic-written, automatic-written, object-null, object-some, element-classic, element-automatic}
 

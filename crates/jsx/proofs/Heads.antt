@@ -15,12 +15,12 @@ use Rattle.definitions.specs.Judging.{done}
 use Rattle.definitions.specs.Tree.{Node, Root}
 use Rattle.definitions.specs.Reading.{opened, elementAt, fragmentAt}
 use Rattle.definitions.specs.Lowering.{Context, lowerNode, lowerRoot}
-use Rattle.emit.specs.declared.pen.Pen.{Pen}
+use Rattle.pen.specs.declared.pen.Pen.{Pen}
 use Rattle.emit.specs.declared.jsx_self.Head.{Head}
-use Rattle.emit.specs.Emitting.{Produced}
+use Rattle.pen.specs.Emitting.{Produced}
 use Rattle.emit.specs.Heads.{NodeAt, element-at, fragment-at, HeadOf}
 use Rattle.jsx.specs.Parts.{context}
-use Rattle.jsx.proofs.Inversions.{opened-done}
+use Rattle.parts.proofs.Inversions.{opened-done}
 use Rattle.jsx.proofs.Parenting.{countable, ElementWritten, FragmentWritten}
 
 -- ---- the element or fragment at the front

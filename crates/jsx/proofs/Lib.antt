@@ -1,8 +1,6 @@
-pub mod Inversions
+pub mod Nesting
 pub mod Writing
 pub mod Turns
-pub mod Fronts
-pub mod Spreading
 pub mod Lowerings
 pub mod Attributing
 pub mod Calling

@@ -20,10 +20,11 @@ use Rattle.definitions.specs.Reading.{valueAt}
 use Rattle.definitions.specs.JsxText.{jsxText}
 use Rattle.definitions.specs.Lowering.{Context, Output, put, putByte, putOver, piece, quoted, calleeNamed, pureByte, closing, classicCall, classicElement, isClassic, automaticCall, automaticName, childrenProperty, formOf, staticChildren, objectOf, survivors, hasSpread, someLine, lowerText, isKey, hasValue, keyNotice, attributeName, lowerAttributes, lowerKey, lowerNode, lowerValue, lowerChildren}
 use Rattle.definitions.specs.Store.{createElement}
-use Rattle.emit.specs.declared.pen.Pen.{Pen}
-use Rattle.emit.specs.Emitting.{Called, Produced}
-use Rattle.jsx.specs.Parts.{Written, someOutput, KeyFirst, other, first, KeyAt, no-key, key-at, childrenObject, Step, ends, goes, classicCallOf, automaticElement, classicProperties, classicFragment, automaticFragment}
-use Rattle.jsx.proofs.Inversions.{Behind, value-absent, value-empty, value-expression, value-text}
+use Rattle.pen.specs.declared.pen.Pen.{Pen}
+use Rattle.pen.specs.Emitting.{Called, Produced}
+use Rattle.parts.specs.Promises.{someOutput}
+use Rattle.jsx.specs.Parts.{Written, KeyFirst, other, first, KeyAt, no-key, key-at, childrenObject, Step, ends, goes, classicCallOf, automaticElement, classicProperties, classicFragment, automaticFragment}
+use Rattle.parts.proofs.Inversions.{Behind, value-absent, value-empty, value-expression, value-text}
 use Rattle.jsx.proofs.Writing.{along, called, being}
 
 -- ---- values

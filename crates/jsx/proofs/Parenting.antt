@@ -18,12 +18,14 @@ use Rattle.definitions.specs.Tree.{Node, Value, Children, noChildren, textChild
 use Rattle.definitions.specs.Reading.{elementAt, fragmentAt, valueAt, childrenAt}
 use Rattle.definitions.specs.JsxText.{jsxText}
 use Rattle.definitions.specs.Lowering.{Context, Output, put, putByte, putOver, formOf, survivors, hasSpread, lowerText, lowerNode, lowerValue, lowerChildren}
-use Rattle.emit.specs.declared.pen.Pen.{Pen}
-use Rattle.emit.specs.Emitting.{Called, Produced}
+use Rattle.pen.specs.declared.pen.Pen.{Pen}
+use Rattle.pen.specs.Emitting.{Called, Produced}
 use Rattle.roots.specs.InOrder.{Inside}
-use Rattle.jsx.specs.declared.jsx_impl.Items.{Items}
-use Rattle.jsx.specs.Parts.{Written, Countable, IsText, TextWritten, Step, goes, Moves, ChildStep, ChildrenEnd, ChildrenGo, ChildrenWritten, childrenObject}
-use Rattle.jsx.proofs.Inversions.{Opening, Behind, NodeFirst, value-element, value-fragment, children-end, children-wrong, children-cut, children-text, children-expression, children-empty, children-spread, children-element, children-fragment}
+use Rattle.parts.specs.declared.jsx_impl.Items.{Items}
+use Rattle.parts.specs.Promises.{IsText, TextWritten}
+use Rattle.jsx.specs.Parts.{Written, Countable, Step, goes, Moves, ChildStep, ChildrenEnd, ChildrenGo, ChildrenWritten, childrenObject}
+use Rattle.parts.proofs.Inversions.{Opening, Behind, value-element, value-fragment}
+use Rattle.jsx.proofs.Nesting.{NodeFirst, children-end, children-wrong, children-cut, children-text, children-expression, children-empty, children-spread, children-element, children-fragment}
 use Rattle.jsx.proofs.Writing.{none, along, called, being, instead}
 use Rattle.jsx.proofs.Turns.{Left, left-start, left-goes, left-ends}
 use Rattle.jsx.proofs.Lowerings.{node-written, step-on, step-end, text-counts, expression-counts, empty-counts, spread-counts, node-counts, no-survivors, children-none, children-some}

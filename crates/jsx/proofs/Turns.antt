@@ -9,8 +9,8 @@ use lib.ListN.{length, drop, length-drop}
 use lib.Seq.{drop-drop}
 use Rattle.definitions.specs.Judging.{Parsed, done}
 use Rattle.definitions.specs.Lowering.{Output}
-use Rattle.emit.specs.declared.pen.Pen.{Pen}
-use Rattle.emit.specs.Emitting.{Produced}
+use Rattle.pen.specs.declared.pen.Pen.{Pen}
+use Rattle.pen.specs.Emitting.{Produced}
 use Rattle.jsx.specs.Parts.{Step, ends, goes}
 use Rattle.jsx.proofs.Writing.{none, along, being}
 

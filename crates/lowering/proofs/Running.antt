@@ -30,10 +30,10 @@ use Rattle.definitions.proofs.Notes.{root-notes}
 use Rattle.store.proofs.Adding.{held-moved}
 use Rattle.roots.proofs.Done.{checked-good}
 use Rattle.roots.proofs.Readings.{root-in-order}
-use Rattle.emit.specs.declared.pen.Pen.{Pen}
-use Rattle.emit.specs.Emitting.{Produced, Emitted}
-use Rattle.emit.proofs.Emitting.{call-room, notice-room}
-use Rattle.emit.proofs.Measuring.{penOf, state-stands, counted}
+use Rattle.pen.specs.declared.pen.Pen.{Pen}
+use Rattle.pen.specs.Emitting.{Produced, Emitted}
+use Rattle.pen.proofs.Emitting.{call-room, notice-room}
+use Rattle.pen.proofs.Measuring.{penOf, state-stands, counted}
 use Rattle.lowering.proofs.Judging.{good-tape, fits}
 use Rattle.lowering.specs.Steps.{Ready, judgeTape, tapeOutcome, answerOf, Comes}
 

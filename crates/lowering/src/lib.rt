@@ -11,8 +11,8 @@ ghost use Rattle.lowering.specs.Steps.{Text, Unforged, Ready, judgeTape,
 use definitions::state::Answer;
 use definitions::state::State;
 use definitions::state::Stepped;
-use emit::pen::Pen;
 use jsx::jsx_impl::lower;
+use pen::pen::Pen;
 use room::call_room;
 use roots::check::Checked;
 use roots::check::check_root;

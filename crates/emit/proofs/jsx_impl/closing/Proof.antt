@@ -4,7 +4,7 @@ use mathlib.Core.Path.{refl}
 use borrow.Author.Needs.{needs}
 use Rattle.definitions.specs.Calls as call
 use Rattle.definitions.specs.Calls.{bareCode, byteCode}
-use Rattle.emit.proofs.Emitting.{called-then}
+use Rattle.pen.proofs.Emitting.{called-then}
 use Rattle.emit.proofs.jsx_impl.closing.Statement.{statement}
 use Rattle.emit.proofs.jsx_impl.closing.Tie as tie
 

@@ -5,7 +5,7 @@ use borrow.Author.Needs.{needs}
 use Rattle.definitions.specs.Calls as call
 use Rattle.definitions.specs.Calls.{bareCode, spanCode}
 use Rattle.definitions.specs.Lowering.{attributeName, isFound}
-use Rattle.emit.proofs.Emitting.{called-then}
+use Rattle.pen.proofs.Emitting.{called-then}
 use Rattle.emit.proofs.jsx_impl.get_attribute_name.Statement.{statement}
 use Rattle.emit.proofs.jsx_impl.get_attribute_name.Tie as tie
 

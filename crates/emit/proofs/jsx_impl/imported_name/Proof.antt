@@ -5,7 +5,7 @@ use borrow.Author.Needs.{needs}
 use Rattle.definitions.specs.Lowering.{imported}
 use Rattle.definitions.specs.Calls as call
 use Rattle.definitions.specs.Calls.{byteCode}
-use Rattle.emit.proofs.Emitting.{called-then}
+use Rattle.pen.proofs.Emitting.{called-then}
 use Rattle.emit.proofs.jsx_impl.imported_name.Statement.{statement}
 use Rattle.emit.proofs.jsx_impl.imported_name.Tie as tie
 

@@ -11,7 +11,7 @@ use Rattle.definitions.specs.Calls.{spanCode, bareCode}
 use Rattle.definitions.specs.Lowering.{lowerName}
 use Rattle.emit.proofs.Readings.{in-part, part-short}
 use Rattle.emit.proofs.Names.{name-plain, name-identifier, name-this, name-namespaced, name-wrong, name-cut}
-use Rattle.emit.proofs.Emitting.{called-then, called-produced, noticed-produced, produced-then}
+use Rattle.pen.proofs.Emitting.{called-then, called-produced, noticed-produced, produced-then}
 use Rattle.commands.specs.declared.root.NameCommand.{NameCommand}
 use Rattle.commands.specs.Root.{nameCommand}
 use Rattle.emit.proofs.jsx_impl.transform_element_name.Statement.{statement}

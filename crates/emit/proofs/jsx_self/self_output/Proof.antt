@@ -3,7 +3,7 @@ use mathlib.Core.Path.{refl}
 use borrow.Author.Needs.{needs}
 use Rattle.definitions.specs.Lowering.{selfOutput}
 use borrow.Author.Tests.{not-true, not-false}
-use Rattle.emit.proofs.Emitting.{called-none}
+use Rattle.pen.proofs.Emitting.{called-none}
 use Rattle.definitions.specs.Calls as call
 use Rattle.definitions.specs.Calls.{bareCode}
 use Rattle.emit.proofs.jsx_self.self_output.Statement.{statement}

@@ -2,7 +2,7 @@ use Prim.Native.Nat.{_-_}
 use borrow.Author.Needs.{needs}
 use Rattle.definitions.specs.Lowering.{sourceOutput}
 use borrow.Author.Tests.{not-true, not-false}
-use Rattle.emit.proofs.Emitting.{called-none}
+use Rattle.pen.proofs.Emitting.{called-none}
 use Rattle.emit.proofs.jsx_source.source_output.Statement.{statement}
 use Rattle.emit.proofs.jsx_source.source_output.Tie as tie
 

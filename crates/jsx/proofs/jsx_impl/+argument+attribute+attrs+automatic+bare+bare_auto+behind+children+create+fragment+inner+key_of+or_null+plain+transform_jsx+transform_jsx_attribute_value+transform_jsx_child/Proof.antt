@@ -4,7 +4,8 @@ use Rattle.commands.proofs.Lengths.{attribute-fits, value-fits, child-fits}
 use Rattle.text.proofs.Lists.{told, tail-part}
 use Rattle.roots.proofs.Behind.{part-length}
 use Rattle.jsx.specs.Parts.{context}
-use Rattle.jsx.proofs.Inversions.{value-wrong, value-cut, children-wrong, children-cut, attributes-wrong, attributes-cut}
+use Rattle.parts.proofs.Inversions.{value-wrong, value-cut, attributes-wrong, attributes-cut}
+use Rattle.jsx.proofs.Nesting.{children-wrong, children-cut}
 use Rattle.jsx.proofs.Lowerings.{absent-written, empty-written, text-written, expression-written}
 use Rattle.jsx.proofs.Parenting.{value-element-written, value-fragment-written, child-text, child-expression, child-spread, child-empty, child-end, child-element, child-fragment, KidsLeft, kids-start, kid-fits, kids-fit, kids-go, kids-end, object-bare, object-full}
 use Rattle.definitions.specs.Judging.{done}
@@ -78,27 +79,27 @@ use Rattle.emit.proofs.jsx_impl.closing.Reads as closing-reads
 use Rattle.emit.proofs.jsx_impl.get_attribute_name.Reads as get-attribute-name-reads
 use Rattle.emit.proofs.jsx_impl.get_fragment.Reads as get-fragment-reads
 use Rattle.emit.proofs.jsx_impl.no_key.Reads as no-key-reads
-use Rattle.emit.proofs.jsx_impl.put_namespaced.Reads as put-namespaced-reads
-use Rattle.emit.proofs.jsx_impl.put_string.Reads as put-string-reads
+use Rattle.pen.proofs.strings.put_namespaced.Reads as put-namespaced-reads
+use Rattle.pen.proofs.strings.put_string.Reads as put-string-reads
 use Rattle.emit.proofs.jsx_impl.static_children.Reads as static-children-reads
 use Rattle.emit.proofs.jsx_impl.transform_element_name.Reads as transform-element-name-reads
 use Rattle.emit.proofs.jsx_self.self_output.Reads as self-output-reads
 use Rattle.emit.proofs.jsx_source.source_output.Reads as source-output-reads
-use Rattle.emit.proofs.pen.put_bare.Reads as put-bare-reads
-use Rattle.emit.proofs.pen.put_byte.Reads as put-byte-reads
-use Rattle.emit.proofs.pen.put_over.Reads as put-over-reads
-use Rattle.jsx.proofs.jsx_impl.children_form.Reads as children-form-reads
-use Rattle.jsx.proofs.jsx_impl.has_more.Reads as has-more-reads
-use Rattle.jsx.proofs.jsx_impl.is_classic.Reads as is-classic-reads
-use Rattle.jsx.proofs.jsx_impl.is_classic_element.Reads as is-classic-element-reads
-use Rattle.jsx.proofs.jsx_impl.is_valued_key.Reads as is-valued-key-reads
-use Rattle.jsx.proofs.jsx_impl.key_notice.Reads as key-notice-reads
-use Rattle.jsx.proofs.jsx_impl.literal_attribute.Reads as literal-attribute-reads
-use Rattle.jsx.proofs.jsx_impl.lone_spread.Reads as lone-spread-reads
-use Rattle.jsx.proofs.jsx_impl.newer.Reads as newer-reads
-use Rattle.jsx.proofs.jsx_impl.passed.Reads as passed-reads
-use Rattle.jsx.proofs.jsx_impl.skip_name.Reads as skip-name-reads
-use Rattle.jsx.proofs.jsx_impl.transform_jsx_text.Reads as transform-jsx-text-reads
+use Rattle.pen.proofs.pen.put_bare.Reads as put-bare-reads
+use Rattle.pen.proofs.pen.put_byte.Reads as put-byte-reads
+use Rattle.pen.proofs.pen.put_over.Reads as put-over-reads
+use Rattle.parts.proofs.jsx_impl.children_form.Reads as children-form-reads
+use Rattle.parts.proofs.jsx_impl.has_more.Reads as has-more-reads
+use Rattle.parts.proofs.jsx_impl.is_classic.Reads as is-classic-reads
+use Rattle.parts.proofs.jsx_impl.is_classic_element.Reads as is-classic-element-reads
+use Rattle.parts.proofs.jsx_impl.is_valued_key.Reads as is-valued-key-reads
+use Rattle.parts.proofs.jsx_impl.key_notice.Reads as key-notice-reads
+use Rattle.parts.proofs.jsx_impl.literal_attribute.Reads as literal-attribute-reads
+use Rattle.parts.proofs.jsx_impl.lone_spread.Reads as lone-spread-reads
+use Rattle.parts.proofs.jsx_impl.newer.Reads as newer-reads
+use Rattle.parts.proofs.jsx_impl.passed.Reads as passed-reads
+use Rattle.parts.proofs.jsx_impl.skip_name.Reads as skip-name-reads
+use Rattle.parts.proofs.jsx_impl.transform_jsx_text.Reads as transform-jsx-text-reads
 use Rattle.roots.proofs.skip.skip_value.Reads as skip-value-reads
 use Rattle.jsx.proofs.jsx_impl.+argument+attribute+attrs+automatic+bare+bare_auto+behind+children+create+fragment+inner+key_of+or_null+plain+transform_jsx+transform_jsx_attribute_value+transform_jsx_child.{
   statement,

@@ -1,0 +1,4 @@
+pub mod Inversions
+pub mod Noticing
+pub mod Fronts
+pub mod Spreading

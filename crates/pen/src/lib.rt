@@ -1,0 +1,4 @@
+// Writing calls and notices, command by command.
+pub mod diagnostics;
+pub mod pen;
+pub mod strings;
