@@ -48,6 +48,10 @@ uint8_t jsx_records(const uint8_t *text, size_t text_len, const uint8_t *state, 
 /* How many bytes of the call target and of the notice target are filled; 0, or 12 (and two zeros) where the bytes are no state's. */
 uint8_t jsx_fills(const uint8_t *state, size_t state_len, size_t *calls, size_t *notices);
 
+/* As many bytes as the calls of a root can take at the most. A call target with that much room behind its fill, and a notice target with as much as the tape is
+ * long, take a root in one pass; where there is less, it is measured first. */
+size_t jsx_call_room(const uint8_t *tape, size_t tape_len);
+
 #ifdef __cplusplus
 }
 #endif

@@ -2,6 +2,7 @@
 """Tapes as listings that people can read, and back.
 
     python3 tools/tapes.py list TAPE [TEXT]     a tape's listing; with the text, the words that its spans name
+    python3 tools/tapes.py show HEX [WORDS]     the same of a tape in hexadecimal and of a text's words, as test vectors have them
     python3 tools/tapes.py make LISTING         the tape of a listing, to standard output
     python3 tools/tapes.py hex LISTING          the same in hexadecimal
 
@@ -173,8 +174,12 @@ def made(lines):
 
 
 def main():
-    if len(sys.argv) < 3 or sys.argv[1] not in ("list", "make", "hex"):
+    if len(sys.argv) < 3 or sys.argv[1] not in ("list", "show", "make", "hex"):
         raise SystemExit(__doc__)
+    if sys.argv[1] == "show":
+        text = sys.argv[3].encode() if len(sys.argv) > 3 else None
+        print("\n".join(listing(bytes.fromhex(sys.argv[2]), text)))
+        return
     if sys.argv[1] == "list":
         text = open(sys.argv[3], "rb").read() if len(sys.argv) > 3 else None
         print("\n".join(listing(open(sys.argv[2], "rb").read(), text)))

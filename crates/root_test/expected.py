@@ -1,59 +1,41 @@
 #!/usr/bin/env python3
 """Makes this test's vectors, and what the program has to print: python3 crates/root_test/expected.py
 
-Writes `stdin` and `stdout` beside itself. The answers are those of tests/rust/model.py, a second reading of the specification in
+Reads vectors.txt beside itself and writes `stdin` and `stdout`, or with --check compares with those there. The answers are those of tests/rust/model.py, a second reading of the specification in
 Python; those to forged states stand here as the specification has them.
 """
 
+import json
 import os
 import sys
 
 HERE = os.path.dirname(os.path.abspath(__file__))
-sys.path.insert(0, os.path.join(HERE, "..", "..", "tests", "rust"))
+sys.path[:0] = [os.path.join(HERE, "..", "..", *folder) for folder in (("tests", "rust"), ("tools",))]
 sys.dont_write_bytecode = True
 import model  # noqa: E402
-
-PLUGIN, SELF, SOURCE, CLASSIC, DEVELOPMENT, THROW, PURE, MODULE = (1 << bit for bit in range(8))
-MODULE_JOB = PLUGIN | THROW | PURE | MODULE
+import tapes  # noqa: E402
 
 
-def job(flags):
-    return b"\x61" + flags.to_bytes(2, "little")
-
-
-def at(start, size):
-    return start.to_bytes(2, "little") + size.to_bytes(2, "little")
-
-
-def place(line=0, column=0):
-    return line.to_bytes(4, "little") + column.to_bytes(4, "little")
-
-
-# over the text `a key`: a tag, a key without value, and so on
-TEXT = b"a key"
-A = b"\x20" + at(0, 1)
-KEY = b"\x30" + at(2, 3)
-SPREAD = b"\x32\x01\x00"
-
-
-def element(attributes=b"", children=b"", name=A, where=place()):
-    return b"\x10" + where + name + attributes + b"\x1e" + children + b"\x1f"
-
-
-def fragment(children=b"", where=place()):
-    return b"\x11" + where + children + b"\x1f"
-
-
-def root(node, head=b"\x01\x00\x02\x03"):
-    return head + node
-
-
-def nested(times):
-    return fragment(nested(times - 1)) if times else b""
-
-
-def in_values(times):
-    return element(b"\x30" + at(0, 1) + (in_values(times - 1) if times > 1 else b"\x40"))
+def vectors():
+    """Name, opening tape, text, the sizes of the targets and the roots of each vector in vectors.txt."""
+    found = []
+    with open(os.path.join(HERE, "vectors.txt"), encoding="utf-8") as file:
+        for line in file:
+            word, _, rest = line.rstrip("\n").partition(" ")
+            if word == "vector":
+                found.append((rest, [], [], [], []))
+            elif word == "targets":
+                found[-1][3].extend(map(int, rest.split()))
+            elif word == "text":
+                found[-1][2].append(json.loads(rest).encode())
+            elif word == "opening":
+                lines = found[-1][1]
+            elif word == "root":
+                found[-1][4].append(lines := [])
+            elif word == "" and rest:
+                lines.append(rest)
+    for name, opening, (text,), rooms, roots in found:
+        yield name, tapes.made(opening), text, rooms, [tapes.made(root) for root in roots]
 
 
 # ---- a vector's line
@@ -89,63 +71,6 @@ def answered(job, text, rooms, roots):
         return answers + "; " + model.line(f"records refused 10 {len(records)}:", b"\xee" * rooms[2])
     return answers + filled("records", len(records), records, rooms[2])
 
-
-JOB = job(MODULE_JOB)
-POSITIONS = job(MODULE_JOB | SOURCE)
-VALUELESS = element(KEY + b"\x40")
-NAMESPACED = element(name=b"\x23" + at(0, 1) + at(2, 3))
-# createElement, jsx, jsxs, Fragment and, with the source plugin, the file name
-EVERY = fragment(element(SPREAD + KEY + b"\x42\x02\x00") + element())
-CONSTRUCTOR = b"\x01\x02\x02\x02"
-
-# name, job, text, the sizes of the targets for calls, notices and records, at most two roots
-VECTORS = [
-    ("the specification's example", JOB, b"a", (17, 0, 5), root(element())),
-    # levels
-    ("64 levels of children", JOB, TEXT, (957, 0, 8), root(nested(64))),
-    ("65 levels of children", JOB, TEXT, (8, 4, 4), root(nested(65))),
-    ("64 levels of values", JOB, TEXT, (1409, 0, 5), root(in_values(64))),
-    ("65 levels of values", JOB, TEXT, (8, 4, 4), root(in_values(65))),
-    # positions
-    ("line 4294967294", POSITIONS, TEXT, (28, 0, 8), root(element(where=place(4294967294, 0)))),
-    ("line 4294967295", POSITIONS, TEXT, (28, 0, 8), root(element(where=place(4294967295, 0)))),
-    ("column 4294967294", POSITIONS, TEXT, (28, 0, 8), root(element(where=place(0, 4294967294)))),
-    ("column 4294967295", POSITIONS, TEXT, (28, 0, 8), root(element(where=place(0, 4294967295)))),
-    ("line 4294967294 of a fragment", POSITIONS, TEXT, (13, 0, 8), root(fragment(where=place(4294967294, 4294967294)))),
-    ("line 4294967295 of a fragment", POSITIONS, TEXT, (13, 0, 8), root(fragment(where=place(4294967295, 0)))),
-    # the call target
-    ("call target exactly full", JOB, TEXT, (17, 2, 6), root(element())),
-    ("call target one byte short", JOB, TEXT, (16, 2, 6), root(element())),
-    ("no call target", JOB, TEXT, (0, 0, 0), root(element())),
-    ("call target exactly full by two", JOB, TEXT, (34, 2, 6), root(element()), root(element())),
-    ("call target one byte short for the second", JOB, TEXT, (33, 2, 6), root(element()), root(element())),
-    ("a refused root binds nothing", JOB, TEXT, (17, 2, 9), root(fragment(element())), root(element())),
-    # the notice target
-    ("notice target exactly full", JOB, TEXT, (23, 5, 6), root(VALUELESS)),
-    ("notice target one byte short", JOB, TEXT, (23, 4, 6), root(VALUELESS)),
-    ("notice target exactly full by two", JOB, TEXT, (46, 14, 6), root(VALUELESS), root(NAMESPACED)),
-    ("notice target one byte short for the second", JOB, TEXT, (46, 13, 6), root(VALUELESS), root(NAMESPACED)),
-    ("both targets short", JOB, TEXT, (22, 4, 6), root(VALUELESS)),
-    # the record target
-    ("record target exactly full", JOB, TEXT, (17, 0, 5), root(element())),
-    ("record target one byte short", JOB, TEXT, (17, 0, 4), root(element())),
-    ("no records into no target", JOB, TEXT, (17, 0, 0)),
-    # the order of refusals
-    ("a faulty tape into no target", JOB, TEXT, (0, 0, 0), root(element(children=b"\x51"))),
-    ("an ampersand, then a span outside", JOB, b"a&", (4, 4, 4), root(element(children=b"\x50" + at(1, 1) + b"\x50" + at(1, 2)))),
-    ("a span outside, then an ampersand", JOB, b"a&", (4, 4, 4), root(element(children=b"\x50" + at(1, 2) + b"\x50" + at(1, 1)))),
-    # what wrong ports do otherwise
-    ("a first line keeps its front", JOB, b" a \n b", (33, 0, 6), root(element(children=b"\x50" + at(0, 6)))),
-    ("a sole spread child", JOB, TEXT, (23, 0, 6), root(element(children=b"\x51\x07\x00"))),
-    ("bindings of children come first", JOB, TEXT, (32, 0, 10), root(fragment(element()))),
-    ("a lone spread where self is not allowed", job(CLASSIC | SELF), TEXT, (20, 0, 6), root(element(SPREAD), CONSTRUCTOR)),
-    ("a lone spread without plugins", job(CLASSIC), TEXT, (20, 0, 6), root(element(SPREAD), CONSTRUCTOR)),
-    # all that a job can bind: five records at the most, so that refusal 9 is out of reach of sound states
-    ("all bindings of a module", POSITIONS, TEXT, (110, 5, 20), root(EVERY), root(element())),
-    ("all bindings in development", job(MODULE_JOB | DEVELOPMENT), TEXT, (120, 5, 20), root(EVERY), root(element())),
-    ("all bindings of a script", job(PLUGIN | SOURCE), TEXT, (120, 5, 20), root(EVERY), root(element())),
-    ("all bindings of a classic job", job(CLASSIC | SOURCE), TEXT, (110, 5, 20), root(EVERY), root(element())),
-]
 
 # ---- the states of forged.rt: the smallest element over each, into targets of 20 and 6 bytes
 
@@ -197,14 +122,20 @@ FORGED = [
 
 def main():
     sys.setrecursionlimit(10000)
-    vectors, lines = [], []
-    for name, job_tape, text, rooms, *roots in VECTORS:
-        tapes = [each.hex() for each in roots] + [""] * (2 - len(roots))
-        vectors.append("|".join([name, job_tape.hex(), text.hex(), *map(str, rooms), *tapes]))
+    given, lines = [], []
+    for name, job_tape, text, rooms, roots in vectors():
+        hexes = [each.hex() for each in roots] + [""] * (2 - len(roots))
+        given.append("|".join([name, job_tape.hex(), text.hex(), *map(str, rooms), *hexes]))
         lines.append(name + ":" + answered(job_tape, text, rooms, roots))
-    for name, content in (("stdin", vectors), ("stdout", lines + FORGED)):
-        with open(os.path.join(HERE, name), "w") as file:
-            file.write("\n".join(content) + "\n")
+    for name, content in (("stdin", given), ("stdout", lines + FORGED)):
+        whole, path = "\n".join(content) + "\n", os.path.join(HERE, name)
+        if "--check" not in sys.argv:
+            with open(path, "w") as file:
+                file.write(whole)
+        elif open(path).read() != whole:
+            raise SystemExit(f"crates/root_test/{name} is not what vectors.txt and the model make")
+    if "--check" in sys.argv:
+        print(f"root_test: {len(given)} vectors made again from their listings")
 
 
 if __name__ == "__main__":

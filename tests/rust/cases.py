@@ -1,10 +1,16 @@
-"""The file of cases: what generate.py writes and what model.py, oracle and others read. python3 cases.py FILE prints it in words.
+"""The file of cases: what generate.py writes and what model.py, oracle and others read. python3 cases.py FILE prints it as listings.
 
 Each case: job, text, number of roots, roots. Lengths and the number are four bytes, little-endian.
 """
 
+import json
+import os
 import struct
 import sys
+
+sys.path.insert(0, os.path.join(os.path.dirname(os.path.abspath(__file__)), "..", "..", "tools"))
+sys.dont_write_bytecode = True
+import tapes  # noqa: E402
 
 
 def packed(data):
@@ -41,8 +47,9 @@ def main():
     with open(sys.argv[1], "rb") as file:
         for number, (job, text, roots) in enumerate(unpack(file.read())):
             print("case", number)
-            for word, data in (("job", job), ("text", text), *(("root", root) for root in roots)):
-                print(word, data.hex(" "))
+            print("text", json.dumps(text.decode("utf-8", "backslashreplace")))
+            for word, tape in (("opening", job), *(("root", root) for root in roots)):
+                print(word, *tapes.listing(tape, text), sep="\n  ")
 
 
 if __name__ == "__main__":

@@ -26,6 +26,9 @@ pub use settings::{Settings, Span};
 /// How many bytes a job's state has.
 pub const STATE_SIZE: usize = 102;
 
+// Room is made up to this ahead of a root.
+const MOST_ROOM: usize = 1 << 20;
+
 /// A job over a text: its state, and what its roots gave so far.
 #[derive(Clone, Debug)]
 pub struct Job<'t> {
@@ -78,19 +81,19 @@ impl<'t> Job<'t> {
         Ok(Lowered { calls: &self.calls[calls..], notices: &self.notices[notices..] })
     }
 
-    // Asks, makes the room that the refusal names, and asks again: twice for the calls and the notices.
+    // With room for whatever the root can give it is lowered in one pass. Where that would be too much, or the root is long in fact, the refusal names
+    // what is wanted.
     fn lower_with_room(
         &mut self,
         root: &[u8],
         calls: usize,
         notices: usize,
     ) -> Result<(), Refusal> {
-        for _ in 0..2 {
-            match raw::root(self.text, &mut self.state, root, &mut self.calls, &mut self.notices) {
-                Err(Refusal::Space { needed }) => self.calls.resize(calls + needed, 0),
-                Err(Refusal::NoticeSpace { needed }) => self.notices.resize(notices + needed, 0),
-                outcome => return outcome,
-            }
+        self.calls.resize(calls + raw::call_room(root).min(MOST_ROOM), 0);
+        self.notices.resize(notices + root.len().min(MOST_ROOM), 0);
+        match raw::root(self.text, &mut self.state, root, &mut self.calls, &mut self.notices) {
+            Err(Refusal::Space { needed }) => self.calls.resize(calls + needed, 0),
+            outcome => return outcome,
         }
         raw::root(self.text, &mut self.state, root, &mut self.calls, &mut self.notices)
     }
@@ -117,6 +120,11 @@ impl<'t> Job<'t> {
     /// The notices of all roots so far.
     pub fn notices(&self) -> &[u8] {
         &self.notices
+    }
+
+    /// The calls and the notices of all roots.
+    pub fn into_tapes(self) -> (Vec<u8>, Vec<u8>) {
+        (self.calls, self.notices)
     }
 
     /// The state, to be kept with the calls and notices for `Job::resume`.

@@ -53,6 +53,22 @@ fn roots_in_turn_share_a_binding() {
     assert_eq!(job.records().unwrap(), [0xb0, 1, 0xb1, 2, 0]);
 }
 
+// 30,000 lines, eight times over: more than a mebibyte of calls
+#[test]
+fn a_root_beyond_the_room_made_ahead() {
+    let text = "a\n".repeat(30_000);
+    let mut tape = root(&A[..6]);
+    for _ in 0..8 {
+        tape.extend_from_slice(&[0x50, 0, 0, 0x60, 0xea]);
+    }
+    tape.push(0x1f);
+    let mut job = open(text.as_bytes());
+    let string = 2 + 30_000 * 5 + 29_999;
+    assert_eq!(job.lower_root(&tape).unwrap().calls.len(), 20 + 8 * string);
+    assert_eq!(job.calls()[..6], [0x80, 1, 0x81, 0x9a, 0x8a, 0x8b]);
+    assert_eq!(job.into_tapes().0.len(), 20 + 8 * string);
+}
+
 #[test]
 fn a_refused_opening() {
     let told = |text: &[u8], tape: &[u8]| Job::open(text, tape).unwrap_err();

@@ -271,7 +271,11 @@ impl<'f> Case<'f> {
     }
 }
 
-fn context<'a>(text: &'a str, module: bool, allocator: &'a Allocator) -> TraverseCtx<'a> {
+pub(crate) fn context<'a>(
+    text: &'a str,
+    module: bool,
+    allocator: &'a Allocator,
+) -> TraverseCtx<'a> {
     let mut state = TransformState::default();
     state.source_path = PathBuf::from(PATH);
     state.source_text = text;
@@ -333,7 +337,10 @@ fn settings(options: &JsxOptions, typescript: &TypeScriptOptions, module: bool) 
 }
 
 /// The statements that the store makes, in its order, then the file name's.
-fn records<'a>(ctx: &mut TraverseCtx<'a>, sources: &Sources) -> Result<Vec<Record>, String> {
+pub(crate) fn records<'a>(
+    ctx: &mut TraverseCtx<'a>,
+    sources: &Sources,
+) -> Result<Vec<Record>, String> {
     let mut records = Vec::new();
     let imports = std::mem::take(&mut ctx.state.module_imports.imports);
     for (source, names) in imports {
