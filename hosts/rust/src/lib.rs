@@ -26,16 +26,41 @@ pub use settings::{Settings, Span};
 /// How many bytes a job's state has.
 pub const STATE_SIZE: usize = 102;
 
-// Room is made up to this ahead of a root.
-const MOST_ROOM: usize = 1 << 20;
+// A longer tape is refused.
+const LONGEST: usize = 65_535;
 
 /// A job over a text: its state, and what its roots gave so far.
 #[derive(Clone, Debug)]
 pub struct Job<'t> {
     text: &'t [u8],
     state: [u8; STATE_SIZE],
-    calls: Vec<u8>,
-    notices: Vec<u8>,
+    calls: Target,
+    notices: Target,
+}
+
+/// What was written so far, and room behind it that is kept from root to root.
+#[derive(Clone, Debug, Default)]
+struct Target {
+    bytes: Vec<u8>,
+    filled: usize,
+}
+
+impl Target {
+    fn written(&self) -> &[u8] {
+        &self.bytes[..self.filled]
+    }
+
+    fn make_room(&mut self, room: usize) {
+        let wanted = self.filled + room;
+        if self.bytes.len() < wanted {
+            self.bytes.resize(wanted.max(2 * self.bytes.len()), 0);
+        }
+    }
+
+    fn into_written(mut self) -> Vec<u8> {
+        self.bytes.truncate(self.filled);
+        self.bytes
+    }
 }
 
 /// What one root added.
@@ -50,7 +75,7 @@ impl<'t> Job<'t> {
     pub fn open(text: &'t [u8], tape: &[u8]) -> Result<Job<'t>, Refusal> {
         let mut state = [0; STATE_SIZE];
         raw::open(text, tape, &mut state)?;
-        Ok(Job { text, state, calls: Vec::new(), notices: Vec::new() })
+        Ok(Job { text, state, calls: Target::default(), notices: Target::default() })
     }
 
     /// A job taken up again, from the bytes of its state and from its calls and notices so far. A state that does not fit them is refused
@@ -66,36 +91,36 @@ impl<'t> Job<'t> {
         if fills != (calls.len(), notices.len()) {
             return Err(Refusal::Forged);
         }
-        Ok(Job { text, state, calls, notices })
+        let target = |bytes: Vec<u8>| Target { filled: bytes.len(), bytes };
+        Ok(Job { text, state, calls: target(calls), notices: target(notices) })
     }
 
     /// Lowers a root. A refusal leaves the job as it was.
     pub fn lower_root(&mut self, root: &[u8]) -> Result<Lowered<'_>, Refusal> {
-        let (calls, notices) = (self.calls.len(), self.notices.len());
-        let outcome = self.lower_with_room(root, calls, notices);
-        // the targets hold what the state says is filled, and no room behind it
-        let (filled, told) = raw::fills(&self.state)?;
-        self.calls.truncate(filled);
-        self.notices.truncate(told);
-        outcome?;
-        Ok(Lowered { calls: &self.calls[calls..], notices: &self.notices[notices..] })
+        let (calls, notices) = (self.calls.filled, self.notices.filled);
+        self.lower_with_room(root)?;
+        (self.calls.filled, self.notices.filled) = raw::fills(&self.state)?;
+        Ok(Lowered {
+            calls: &self.calls.written()[calls..],
+            notices: &self.notices.written()[notices..],
+        })
     }
 
-    // With room for whatever the root can give it is lowered in one pass. Where that would be too much, or the root is long in fact, the refusal names
-    // what is wanted.
-    fn lower_with_room(
-        &mut self,
-        root: &[u8],
-        calls: usize,
-        notices: usize,
-    ) -> Result<(), Refusal> {
-        self.calls.resize(calls + raw::call_room(root).min(MOST_ROOM), 0);
-        self.notices.resize(notices + root.len().min(MOST_ROOM), 0);
-        match raw::root(self.text, &mut self.state, root, &mut self.calls, &mut self.notices) {
-            Err(Refusal::Space { needed }) => self.calls.resize(calls + needed, 0),
+    // Where no two texts of the root overlap, there is room for all that it can give, and it is lowered in one pass; else it may be refused for want of
+    // room, which names what is wanted.
+    fn lower_with_room(&mut self, root: &[u8]) -> Result<(), Refusal> {
+        let size = root.len().min(LONGEST);
+        self.calls.make_room(4 * size + 6 * self.text.len());
+        self.notices.make_room(size);
+        match self.lower_into_targets(root) {
+            Err(Refusal::Space { needed }) => self.calls.make_room(needed),
             outcome => return outcome,
         }
-        raw::root(self.text, &mut self.state, root, &mut self.calls, &mut self.notices)
+        self.lower_into_targets(root)
+    }
+
+    fn lower_into_targets(&mut self, root: &[u8]) -> Result<(), Refusal> {
+        raw::root(self.text, &mut self.state, root, &mut self.calls.bytes, &mut self.notices.bytes)
     }
 
     /// The record tape: the imports, requires and file name that the calls so far mention.
@@ -114,17 +139,17 @@ impl<'t> Job<'t> {
 
     /// The calls of all roots so far.
     pub fn calls(&self) -> &[u8] {
-        &self.calls
+        self.calls.written()
     }
 
     /// The notices of all roots so far.
     pub fn notices(&self) -> &[u8] {
-        &self.notices
+        self.notices.written()
     }
 
     /// The calls and the notices of all roots.
     pub fn into_tapes(self) -> (Vec<u8>, Vec<u8>) {
-        (self.calls, self.notices)
+        (self.calls.into_written(), self.notices.into_written())
     }
 
     /// The state, to be kept with the calls and notices for `Job::resume`.

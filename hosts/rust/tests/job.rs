@@ -53,9 +53,9 @@ fn roots_in_turn_share_a_binding() {
     assert_eq!(job.records().unwrap(), [0xb0, 1, 0xb1, 2, 0]);
 }
 
-// 30,000 lines, eight times over: more than a mebibyte of calls
+// 30,000 lines, eight times over: more than what there is room for at first
 #[test]
-fn a_root_beyond_the_room_made_ahead() {
+fn texts_that_overlap() {
     let text = "a\n".repeat(30_000);
     let mut tape = root(&A[..6]);
     for _ in 0..8 {
