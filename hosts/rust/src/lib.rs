@@ -78,6 +78,17 @@ impl<'t> Job<'t> {
         Ok(Job { text, state, calls: Target::default(), notices: Target::default() })
     }
 
+    /// The same with memory that another job gave back (`into_buffers`), which is neither cleared nor shown.
+    pub fn open_in(
+        text: &'t [u8],
+        tape: &[u8],
+        (calls, notices): (Vec<u8>, Vec<u8>),
+    ) -> Result<Job<'t>, Refusal> {
+        let job = Job::open(text, tape)?;
+        let target = |bytes: Vec<u8>| Target { bytes, filled: 0 };
+        Ok(Job { calls: target(calls), notices: target(notices), ..job })
+    }
+
     /// A job taken up again, from the bytes of its state and from its calls and notices so far. A state that does not fit them is refused
     /// here, and one that does not fit the text by the next entry.
     pub fn resume(
@@ -150,6 +161,11 @@ impl<'t> Job<'t> {
     /// The calls and the notices of all roots.
     pub fn into_tapes(self) -> (Vec<u8>, Vec<u8>) {
         (self.calls.into_written(), self.notices.into_written())
+    }
+
+    /// The memory of the targets, for `open_in`.
+    pub fn into_buffers(self) -> (Vec<u8>, Vec<u8>) {
+        (self.calls.bytes, self.notices.bytes)
     }
 
     /// The state, to be kept with the calls and notices for `Job::resume`.

@@ -70,6 +70,16 @@ fn texts_that_overlap() {
 }
 
 #[test]
+fn memory_used_again() {
+    let mut first = open(b"a");
+    first.lower_root(&root(&A)).unwrap();
+    let mut second = Job::open_in(b"a", &settings().tape(), first.into_buffers()).unwrap();
+    assert_eq!((second.calls(), second.notices()), (&[][..], &[][..]));
+    assert_eq!(second.lower_root(&root(&A)).unwrap().calls, CALLS);
+    assert_eq!(second.into_tapes(), (CALLS.to_vec(), vec![]));
+}
+
+#[test]
 fn a_refused_opening() {
     let told = |text: &[u8], tape: &[u8]| Job::open(text, tape).unwrap_err();
     assert_eq!(told(&[b'a'; 65536], &[0x61, 0, 0]), Refusal::TooLong);

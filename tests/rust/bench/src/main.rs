@@ -20,13 +20,21 @@ static MEMORY: arena::Memory = arena::Memory::new();
 
 const ROUNDS: usize = 21;
 
+/// The memory of the port's targets, which goes from job to job and is not cleared.
+type Buffers = (Vec<u8>, Vec<u8>);
+
 /// The job by the port: open, every root, the records.
-fn port(job: &Job) -> Result<Output, Refusal> {
-    let mut open = jsx_lowering::Job::open(job.text.as_bytes(), &job.opening)?;
+fn port<'j>(job: &'j Job, buffers: Buffers) -> Result<(jsx_lowering::Job<'j>, Vec<u8>), Refusal> {
+    let mut open = jsx_lowering::Job::open_in(job.text.as_bytes(), &job.opening, buffers)?;
     for root in &job.roots {
         open.lower_root(root)?;
     }
     let records = open.records()?;
+    Ok((open, records))
+}
+
+fn port_output(job: &Job) -> Result<Output, Refusal> {
+    let (open, records) = port(job, Buffers::default())?;
     let (calls, notices) = open.into_tapes();
     Ok(Output { calls, notices, records })
 }
@@ -51,37 +59,46 @@ struct Costs {
     alone: [f64; 2],
 }
 
+/// The time of all jobs of a kind, one after the other, and again.
+fn over(kind: &Kind, repeat: usize, mut work: impl FnMut(&Job) -> Duration) -> Duration {
+    let mut sum = Duration::ZERO;
+    for _ in 0..repeat {
+        for job in &kind.jobs {
+            sum += work(job);
+        }
+    }
+    sum
+}
+
 fn measure(kind: &Kind) -> Costs {
     let mut times = [const { Vec::new() }; 5];
+    let mut buffers = Buffers::default();
     // rounds of some milliseconds each
     let repeat = 1 + 200_000 / kind.tape_bytes().max(kind.text_bytes());
     for _ in 0..ROUNDS {
-        let mut sums = [Duration::ZERO; 5];
-        for _ in 0..repeat {
-            for job in &kind.jobs {
-                sums[0] += timed(|| {
-                    black_box(port(job).unwrap());
-                });
-            }
-            for job in &kind.jobs {
-                sums[1] += timed(|| {
+        let sums = [
+            over(kind, repeat, |job| {
+                timed(|| {
+                    let (open, records) = port(job, std::mem::take(&mut buffers)).unwrap();
+                    black_box((open.calls(), records));
+                    buffers = open.into_buffers();
+                })
+            }),
+            over(kind, repeat, |job| {
+                timed(|| {
                     black_box(job.run(true).unwrap());
-                });
-            }
-            for job in &kind.jobs {
-                sums[2] += in_arena(|| {
+                })
+            }),
+            over(kind, repeat, |job| {
+                in_arena(|| {
                     timed(|| {
                         black_box(job.run(false).unwrap());
                     })
-                });
-            }
-            for job in &kind.jobs {
-                sums[3] += job.lower(true).unwrap();
-            }
-            for job in &kind.jobs {
-                sums[4] += in_arena(|| job.lower(false).unwrap());
-            }
-        }
+                })
+            }),
+            over(kind, repeat, |job| job.lower(true).unwrap()),
+            over(kind, repeat, |job| in_arena(|| job.lower(false).unwrap())),
+        ];
         for (list, sum) in times.iter_mut().zip(sums) {
             list.push(sum);
         }
@@ -107,7 +124,7 @@ fn main() -> ExitCode {
         [flag, name] if flag == "--port" && kinds.iter().any(|kind| kind.name == name) => {
             let kind = kinds.iter().find(|kind| kind.name == name).unwrap();
             for job in &kind.jobs {
-                black_box(port(job).unwrap());
+                black_box(port_output(job).unwrap());
             }
             println!("{}", kind.tape_bytes());
             return ExitCode::SUCCESS;
@@ -121,7 +138,7 @@ fn main() -> ExitCode {
     // Both sides must give the same before anything is measured. It also lets what the Rust keeps between jobs grow.
     for kind in &kinds {
         for (number, job) in kind.jobs.iter().enumerate() {
-            if port(job).ok() != job.run(true) {
+            if port_output(job).ok() != job.run(true) {
                 eprintln!("{}, job {number}: the two sides differ", kind.name);
                 return ExitCode::FAILURE;
             }
