@@ -15,7 +15,8 @@
  *     11  notice target has no room                                   the same, of notices
  *     12  the state is not one that these entries made                0
  *
- * A refusal leaves the state and every target as they were, so an entry that wants room can be called again with more.
+ * A refusal leaves the state and every target as they were (behind roots of a list that were lowered, as these left them), so an entry that wants room can be
+ * called again with more.
  *
  * What a caller owes: each pointer points to as many bytes as the length behind it says and is not null, also where that is 0;
  * what an entry writes (no `const`) overlaps nothing else that it is given. The entries keep nothing between calls and no pointer.
@@ -41,9 +42,24 @@ uint8_t jsx_open(const uint8_t *text, size_t text_len, const uint8_t *job, size_
 uint8_t jsx_root(const uint8_t *text, size_t text_len, uint8_t *state, size_t state_len, const uint8_t *tape, size_t tape_len, uint8_t *calls,
                  size_t calls_len, uint8_t *notices, size_t notices_len, size_t *figure);
 
+/* Lowers the roots of a list in turn, up to the first that is refused. On the list each root stands behind its length, two bytes with the low one first.
+ * `taken` is how many were lowered; the state and the targets are as these left them. On 0 that is all of them; else the number and the figure are the
+ * refusal of the root with that index, counted from 0. A list that is cut short is refused by 3 with the list's length, behind its whole roots.
+ * The text is tested once for the whole list, while jsx_root tests it for each root. */
+uint8_t jsx_roots(const uint8_t *text, size_t text_len, uint8_t *state, size_t state_len, const uint8_t *roots, size_t roots_len, uint8_t *calls,
+                  size_t calls_len, uint8_t *notices, size_t notices_len, size_t *taken, size_t *figure);
+
 /* Writes the record tape of the roots so far to the front of `target`. On 0 the figure is its length. */
 uint8_t jsx_records(const uint8_t *text, size_t text_len, const uint8_t *state, size_t state_len, uint8_t *target, size_t target_len,
                     size_t *figure);
+
+/* A whole job at once: its opening, the roots of a list (as for jsx_roots) and its records, with no state in between. `calls` and `notices` are filled from their
+ * fronts as far as `call_fill` and `notice_fill` say. On 0 the figure is the length of the record tape at the front of `records`. A refusal ends the job:
+ * `stage` is 0 where the opening is refused, 1 where it is the root with the index `taken`, 2 where the records have no room; the roots before it
+ * have been lowered, and the records are not written. */
+uint8_t jsx_job(const uint8_t *text, size_t text_len, const uint8_t *job, size_t job_len, const uint8_t *roots, size_t roots_len, uint8_t *calls,
+                size_t calls_len, uint8_t *notices, size_t notices_len, uint8_t *records, size_t records_len, size_t *stage, size_t *taken,
+                size_t *call_fill, size_t *notice_fill, size_t *figure);
 
 /* How many bytes of the call target and of the notice target are filled; 0, or 12 (and two zeros) where the bytes are no state's. */
 uint8_t jsx_fills(const uint8_t *state, size_t state_len, size_t *calls, size_t *notices);

@@ -1,6 +1,6 @@
 """Computes generated cases from the definitions of crates/definitions and compares them with model.py: definitions.py [CASES] [SEED]
 
-The cases have one root each. They become tables as in crates/definitions/specs/Sheets.antt, which the prover computes by `refl`; a case that
+The cases have one root each. They become tables as in crates/definitions/specs/Examples.antt, which the prover computes by `refl`; a case that
 differs is an error that names both sides. Works in target/definitions and needs the Rattle kit. Prints how many rows were computed.
 """
 
@@ -44,11 +44,11 @@ def rows(count, seed):
 
 
 def table(part):
-    sheets = (top / "crates/definitions/specs/Sheets.antt").read_text()
-    head = sheets[:sheets.index("-- ---- how rows are written")].replace("Rattle.definitions.specs.", "Rattle.definitions.specs.")
-    unfolded = sheets[sheets.index("unfolding", sheets.index("pub proved-set")):sheets.index("proved-set = refl")]
+    examples = (top / "crates/definitions/specs/Examples.antt").read_text()
+    head = examples[:examples.index("-- ---- how rows are written")].replace("Rattle.definitions.specs.", "Rattle.definitions.specs.")
+    unfolded = examples[examples.index("unfolding", examples.index("\ncomputed :")):examples.index("computed = (refl, refl)")]
     names = "digit, hexOf, hex, prints, output, pairOf, replyTo, Row, _gives_"
-    return (head + f"use Rattle.definitions.specs.Sheets.{{{names}}}\n\nabbrev table : List Row\ntable =\n    " + "\n    ∷ ".join(part)
+    return (head + f"use Rattle.definitions.specs.Examples.{{{names}}}\n\nabbrev table : List Row\ntable =\n    " + "\n    ∷ ".join(part)
         + "\n    ∷ []\n\npub computed : map (λ r. replyTo (r .asked)) table ≡ map (λ r. r .expected) table\n" + unfolded + "computed = refl\n")
 
 

@@ -7,10 +7,10 @@ FILE = "/sheet.jsx"
 
 
 class Printer:
-    def __init__(self, sheet, opening, records):
+    def __init__(self, sample, opening, records):
         """`opening` is the answer's line on the settings, `records` the record tape."""
         words = opening.split(" ")
-        self.text, self.expressions = sheet.source.encode(), sheet.expressions
+        self.text, self.expressions = sample.source.encode(), sample.expressions
         value = lambda at: bytes.fromhex(words[at][1:]).decode() if words[at] != "-" else None
         at = words.index("pragma")
         self.pragmas = [value(at + 1) or "React.createElement", value(at + 4) or "React.Fragment"]
@@ -190,16 +190,16 @@ def notices(text, tape):
     return lines
 
 
-def printed(sheet, answer):
-    """The sheet's program with its JSX replaced, from an answer's lines; or what was refused."""
+def printed(sample, answer):
+    """The sample's program with its JSX replaced, from an answer's lines; or what was refused."""
     for line in answer:
         if " refused" in line or line.startswith("unwritten"):
             return line
     tapes = {word: [bytes.fromhex(line[len(word):]) for line in answer if line.split(" ")[0] == word] for word in ("calls", "notices", "records")}
-    printer = Printer(sheet, answer[0], tapes["records"][0])
-    for (code, _), tape in zip(sheet.roots, tapes["calls"]):
+    printer = Printer(sample, answer[0], tapes["records"][0])
+    for (code, _), tape in zip(sample.roots, tapes["calls"]):
         printer.done[code] = printer.call(tape)
-    program = sheet.source
+    program = sample.source
     # an outer root comes after those within it
     for code, call in reversed(printer.done.items()):
         program = program.replace(code, call)

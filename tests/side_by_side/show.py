@@ -1,5 +1,5 @@
 #!/usr/bin/env python3
-"""Prints what Babel, esbuild, the Rust and the port give for each sheet of sheets.py: OXC_SRC=FOLDER python3 tests/side_by_side/show.py
+"""Prints what Babel, esbuild, the Rust and the port give for each sample of samples.py: OXC_SRC=FOLDER python3 tests/side_by_side/show.py
 
 FOLDER as for tests/rust/run. Needs node with Babel 7 (Debian's node-babel7), esbuild, cargo, and target/bin/replay, which `rt check replay` builds.
 The Rust's and the port's tapes are printed by printer.py. So that only what matters is left to see, all four are printed anew by esbuild, a statement is put on
@@ -20,7 +20,7 @@ sys.path.append(str(TOP / "tests" / "rust"))
 
 from cases import pack
 from printer import printed
-from sheets import CLASSIC, DEVELOPMENT, MODULE, PURE, SELF, SHEETS, SOURCE, THROW
+from samples import CLASSIC, DEVELOPMENT, MODULE, PURE, SELF, SAMPLES, SOURCE, THROW
 
 
 def laid_out(code):
@@ -59,14 +59,14 @@ def underscored(line):
 
 def babel():
     asked = []
-    for sheet in SHEETS:
-        flags = sheet.flags
+    for sample in SAMPLES:
+        flags = sample.flags
         names = ["development"] if flags & DEVELOPMENT else ["jsx"]
         names = [name for bit, name in ((SELF, "self"), (SOURCE, "source")) if flags & bit] + names
         options = {"runtime": "classic" if flags & CLASSIC else "automatic", "throwIfNamespace": bool(flags & THROW)}
         if flags & PURE:
             options["pure"] = True
-        asked.append({"source": sheet.source, "module": bool(flags & MODULE), "names": names, "options": options})
+        asked.append({"source": sample.source, "module": bool(flags & MODULE), "names": names, "options": options})
     environment = dict(os.environ, NODE_PATH=os.environ.get("NODE_PATH", "/usr/share/nodejs"))
     run = subprocess.run(["node", str(HERE / "babel.js")], input=json.dumps(asked), env=environment, capture_output=True, text=True, check=True)
     for answer in json.loads(run.stdout):
@@ -74,12 +74,12 @@ def babel():
 
 
 def esbuild():
-    for sheet in SHEETS:
-        flags = sheet.flags
+    for sample in SAMPLES:
+        flags = sample.flags
         words = ["--jsx=transform" if flags & CLASSIC else "--jsx=automatic", "--loader=jsx", "--sourcefile=/sheet.jsx", "--charset=utf8"]
         words += ["--jsx-dev"] if flags & DEVELOPMENT else []
         words += [] if flags & MODULE else ["--format=cjs"]
-        run = subprocess.run(["esbuild", *words], input=sheet.source, capture_output=True, text=True)
+        run = subprocess.run(["esbuild", *words], input=sample.source, capture_output=True, text=True)
         if run.returncode:
             yield ["refused: " + run.stderr.split("ERROR] ")[1].split("\n")[0]]
         else:
@@ -91,10 +91,10 @@ def visible(letters):
 
 
 def by_tapes(run):
-    """What a program prints for the sheets' cases, as JavaScript."""
+    """What a program prints for the samples' cases, as JavaScript."""
     answers = run.split("case ")[1:]
-    for sheet, answer in zip(SHEETS, answers, strict=True):
-        given = printed(sheet, answer.strip("\n").split("\n")[1:])
+    for sample, answer in zip(SAMPLES, answers, strict=True):
+        given = printed(sample, answer.strip("\n").split("\n")[1:])
         yield [given] if isinstance(given, str) else laid_out(given[0]) + given[1]
 
 
@@ -102,15 +102,15 @@ def main():
     environment = dict(os.environ, OXC_SRC=str(pathlib.Path(os.environ["OXC_SRC"]).resolve()))
     subprocess.run(["cargo", "build", "--quiet", "--release", "--offline", "-j1"], cwd=TOP / "tests/rust", env=environment, check=True)
     with tempfile.NamedTemporaryFile() as file:
-        file.write(b"".join(pack(sheet.job, sheet.source.encode(), [tape for _, tape in sheet.roots]) for sheet in SHEETS))
+        file.write(b"".join(pack(sample.job, sample.source.encode(), [tape for _, tape in sample.roots]) for sample in SAMPLES))
         file.flush()
         rust = subprocess.run([TOP / "tests/rust/target/release/oracle", file.name], capture_output=True, text=True, check=True).stdout
         file.seek(0)
         port = subprocess.run([TOP / "target/bin/replay"], stdin=file, capture_output=True, text=True, check=True).stdout
     columns = {"Babel": babel(), "esbuild": esbuild(), "the Rust": by_tapes(rust), "here": by_tapes(port)}
-    for number, sheet in enumerate(SHEETS):
-        print(f"{number + 1}. {sheet.name}\n")
-        print("    " + visible(sheet.source).replace("\n", "\n    ") + "\n")
+    for number, sample in enumerate(SAMPLES):
+        print(f"{number + 1}. {sample.name}\n")
+        print("    " + visible(sample.source).replace("\n", "\n    ") + "\n")
         shown = {}
         for name, answers in columns.items():
             shown.setdefault("\n".join(next(answers)), []).append(name)

@@ -16,4 +16,4 @@ pub mod Series
 pub mod Callees
 pub mod Claim
 pub mod Program
-pub mod Sheets
+pub mod Examples

@@ -4,7 +4,8 @@ use Prim.Native.Nat.{ℕ}
 use mathlib.Core.Bool.{cond}
 use mathlib.Core.List.{List}
 use lib.ListN.{length}
-use lib.Dec.{ltb}
+use lib.Dec.{eqb, ltb}
+use Rattle.tape.specs.declared.refusal.Refusal.{Refusal}
 use Rattle.tape.specs.declared.refusal.Refusal.the-variants as refusal
 use Rattle.tape.specs.Refusals.{numberOf, figureOf}
 use Rattle.definitions.specs.declared.state.State.{State}
@@ -13,7 +14,9 @@ use Rattle.definitions.specs.declared.state.Answer.the-variants as answer
 use Rattle.definitions.specs.declared.state.Written.{Written}
 use Rattle.definitions.specs.declared.state.Written.the-variants as written
 use Rattle.definitions.specs.Judging.{Judged}
-use Rattle.definitions.specs.Entries.{Outcome, opened, rootOutcome, judgeRecords}
+use Rattle.definitions.specs.Entries.{Outcome, opened, rootOutcome, judgeRecords, recordsAnswer, recordsTarget}
+use Rattle.definitions.specs.Series.{World}
+use Rattle.lowering.specs.RootLists.{Run, run}
 use Rattle.packing.specs.Packed.{packedTarget, unpacked, unpackedAnswer}
 
 -- the state that bytes are; bytes that are no state's stand for one that every entry refuses as forged
@@ -49,6 +52,15 @@ openAnswer text job room = answerIn room (opened text job .answer)
 abbrev pub rootOver : List ℕ → List ℕ → List ℕ → List ℕ → List ℕ → Outcome
 rootOver text state tape calls notices = rootOutcome text (stateFrom state) tape calls notices
 
+-- ---- a list of roots
+
+abbrev pub runOver : List ℕ → List ℕ → List ℕ → List ℕ → List ℕ → Run
+runOver text state roots calls notices = run text (record { state = stateFrom state; calls = calls; notices = notices }) roots
+
+-- the bytes of a state's target behind so many accepted roots: where there is none, they stay
+unfoldable pub keptState : ℕ → State → List ℕ → List ℕ
+keptState taken s bytes = cond (eqb taken 0) bytes (packedTarget s bytes)
+
 -- ---- writing records
 
 abbrev pub recordsOver : List ℕ → List ℕ → ℕ → Judged (List ℕ)
@@ -61,3 +73,45 @@ recordsNumber (written.Refused r) = numberOf r
 unfoldable pub recordsFigure : Written → ℕ
 recordsFigure (written.Accepted n) = n
 recordsFigure (written.Refused r) = figureOf r
+
+-- ---- a whole job
+
+-- how far a job came (0 its opening, 1 its roots, 2 its records), the number and the figure there, how many roots were lowered, what they left, and the
+-- record target after
+pub record JobRun : Type 0 where
+  pub stage : ℕ
+  pub number : ℕ
+  pub figure : ℕ
+  pub taken : ℕ
+  pub world : World
+  pub records : List ℕ
+
+abbrev pub stopped : ℕ → Refusal → ℕ → World → List ℕ → JobRun
+stopped stage x taken w records = record { stage = stage; number = numberOf x; figure = figureOf x; taken = taken; world = w; records = records }
+
+-- the records behind the roots
+unfoldable pub jobRecords : List ℕ → ℕ → World → List ℕ → JobRun
+jobRecords text taken w records =
+    record {
+      stage = 2;
+      number = recordsNumber (recordsAnswer (judgeRecords text (w .state) (length records)));
+      figure = recordsFigure (recordsAnswer (judgeRecords text (w .state) (length records)));
+      taken = taken;
+      world = w;
+      records = recordsTarget records (judgeRecords text (w .state) (length records));
+    }
+
+-- by what the list of roots comes to
+unfoldable pub jobRoots : List ℕ → Answer → ℕ → World → List ℕ → JobRun
+jobRoots text answer.Accepted taken w records = jobRecords text taken w records
+jobRoots text (answer.Refused x) taken w records = stopped 1 x taken w records
+
+-- by what the opening comes to
+unfoldable pub jobBy : List ℕ → Answer → World → List ℕ → List ℕ → JobRun
+jobBy text answer.Accepted w roots records = jobRoots text (run text w roots .answer) (run text w roots .taken) (run text w roots .world) records
+jobBy text (answer.Refused x) w roots records = stopped 0 x 0 w records
+
+-- opening, then the roots, then the records, each with its own refusals
+abbrev pub jobOver : List ℕ → List ℕ → List ℕ → List ℕ → List ℕ → List ℕ → JobRun
+jobOver text job roots calls notices records =
+    jobBy text (opened text job .answer) (record { state = opened text job .state; calls = calls; notices = notices }) roots records

@@ -11,13 +11,14 @@ ghost use Rattle.definitions.specs.declared.records.Import.{Import};
 ghost use Rattle.definitions.specs.Judging.{done};
 ghost use Rattle.definitions.specs.Tree.{Root};
 ghost use Rattle.definitions.specs.Reading.{readRoot};
-ghost use Rattle.definitions.specs.Entries.{opened, loweredAfter, recordsAnswer, recordsTarget};
+ghost use Rattle.definitions.specs.Entries.{opened, loweredAfter, judgeRecords, recordsAnswer, recordsTarget};
 ghost use Rattle.packing.specs.Packed.{unpacked, unpackedAnswer};
-ghost use Rattle.jsxlib.specs.Entries.{stateFrom, numberBy, figureBy, stateAfter, answerIn, openAnswer, rootOver, recordsOver, recordsNumber, recordsFigure};
+ghost use Rattle.jsxlib.specs.Entries.{stateFrom, numberBy, figureBy, stateAfter, answerIn, openAnswer, rootOver, runOver, keptState, recordsOver, recordsNumber, recordsFigure, jobOver};
 use definitions::state::Answer;
 use definitions::state::State;
 use definitions::state::Written;
 use lowering::lower_root;
+use lowering::series::lower_list;
 use packing::reading::unpack;
 use packing::writing::pack;
 use room::call_room;
@@ -122,6 +123,66 @@ pub extern "C" fn jsx_root(
     settle(answer, next, state)
 }
 
+fn number_by(answer: Answer) -> u8
+    ensures { λ r. ⌜ r ≡ numberBy answer ⌝ }
+{
+    match answer {
+        Answer::Accepted => 0,
+        Answer::Refused(refusal) => number(refusal),
+    }
+}
+
+// The state that so many roots left, into its bytes; no roots leave them as they are.
+fn keep(taken: usize, state: State, bytes: &mut [u8])
+    ensures { λ _. ⌜ now (bytes .exit) ≡ keptState taken state (now (bytes .entry)) ⌝ }
+{
+    if taken == 0 {
+        return;
+    }
+    pack(state, bytes);
+}
+
+// Lowers the roots of a list in turn, up to the first that is refused, and tells how many were lowered. Each root stands behind its length, two
+// bytes with the low one first.
+#[no_mangle]
+pub extern "C" fn jsx_roots(
+    text: &[u8],
+    state: &mut [u8],
+    roots: &[u8],
+    calls: &mut [u8],
+    notices: &mut [u8],
+    taken: &mut usize,
+    figure: &mut usize,
+) -> u8
+    ensures { λ r. ⌜ r ≡ numberBy (runOver (now (text .entry)) (now (state .entry)) (now (roots .entry)) (now (calls .entry)) (now (notices .entry)) .answer) ⌝ }
+    ensures { λ _. ⌜ now (figure .exit) ≡ figureBy 0 (runOver (now (text .entry)) (now (state .entry)) (now (roots .entry)) (now (calls .entry)) (now (notices .entry)) .answer) ⌝ }
+    ensures { λ _. ⌜ now (taken .exit) ≡ runOver (now (text .entry)) (now (state .entry)) (now (roots .entry)) (now (calls .entry)) (now (notices .entry)) .taken ⌝ }
+    ensures { λ _. ⌜ now (state .exit) ≡ keptState (runOver (now (text .entry)) (now (state .entry)) (now (roots .entry)) (now (calls .entry)) (now (notices .entry)) .taken) (runOver (now (text .entry)) (now (state .entry)) (now (roots .entry)) (now (calls .entry)) (now (notices .entry)) .world .state) (now (state .entry)) ⌝ }
+    ensures { λ _. ⌜ now (calls .exit) ≡ runOver (now (text .entry)) (now (state .entry)) (now (roots .entry)) (now (calls .entry)) (now (notices .entry)) .world .calls ⌝ }
+    ensures { λ _. ⌜ now (notices .exit) ≡ runOver (now (text .entry)) (now (state .entry)) (now (roots .entry)) (now (calls .entry)) (now (notices .entry)) .world .notices ⌝ }
+{
+    let before = unpack(state);
+    let from = before.state;
+    let listed = lower_list(text, from, roots, calls, notices);
+    let told = listed.answer;
+    let next = listed.state;
+    *taken = listed.taken;
+    *figure = figure_by(told, 0);
+    keep(listed.taken, next, state);
+    number_by(told)
+}
+
+// The record tape of a state: the number of the answer, and its figure.
+fn tell_records(text: &[u8], state: State, target: &mut [u8], figure: &mut usize) -> u8
+    ensures { λ r. ⌜ r ≡ recordsNumber (recordsAnswer (judgeRecords (now (text .entry)) state (length (now (target .entry))))) ⌝ }
+    ensures { λ _. ⌜ now (figure .exit) ≡ recordsFigure (recordsAnswer (judgeRecords (now (text .entry)) state (length (now (target .entry))))) ⌝ }
+    ensures { λ _. ⌜ now (target .exit) ≡ recordsTarget (now (target .entry)) (judgeRecords (now (text .entry)) state (length (now (target .entry)))) ⌝ }
+{
+    let answer = write_records(text, state, target);
+    *figure = records_figure(answer);
+    records_number(answer)
+}
+
 // Writes the record tape; the figure is how many bytes it has.
 #[no_mangle]
 pub extern "C" fn jsx_records(
@@ -136,9 +197,7 @@ pub extern "C" fn jsx_records(
 {
     let unpacked = unpack(state);
     let from = unpacked.state;
-    let answer = write_records(text, from, target);
-    *figure = records_figure(answer);
-    records_number(answer)
+    tell_records(text, from, target, figure)
 }
 
 // How many bytes of the call target and of the notice target are filled: 0, or 12 where the bytes are no state's.
@@ -165,4 +224,64 @@ pub extern "C" fn jsx_call_room(tape: &[u8]) -> usize
     ensures { λ r. ⌜ ((text : List ℕ) (s : Settings) (js : List Import) (o : Root) (u : ℕ) → length (now (tape .entry)) ≤ 65535 → readRoot text (now (tape .entry)) ≡ done o u → length (loweredAfter text s js o .calls) ≤ r) ⌝ }
 {
     call_room(tape)
+}
+
+// A whole job: its opening, the roots of a list in turn, and its records, without a state in between. A refusal ends it: `stage` is 0 where that is the
+// opening's, 1 where it is that of the root with the index `taken`, 2 where there is no room for the records, or where nothing was refused.
+#[no_mangle]
+pub extern "C" fn jsx_job(
+    text: &[u8],
+    job: &[u8],
+    roots: &[u8],
+    calls: &mut [u8],
+    notices: &mut [u8],
+    records: &mut [u8],
+    stage: &mut usize,
+    taken: &mut usize,
+    call_fill: &mut usize,
+    notice_fill: &mut usize,
+    figure: &mut usize,
+) -> u8
+    ensures { λ r. ⌜ r ≡ jobOver (now (text .entry)) (now (job .entry)) (now (roots .entry)) (now (calls .entry)) (now (notices .entry)) (now (records .entry)) .number ⌝ }
+    ensures { λ _. ⌜ now (stage .exit) ≡ jobOver (now (text .entry)) (now (job .entry)) (now (roots .entry)) (now (calls .entry)) (now (notices .entry)) (now (records .entry)) .stage ⌝ }
+    ensures { λ _. ⌜ now (taken .exit) ≡ jobOver (now (text .entry)) (now (job .entry)) (now (roots .entry)) (now (calls .entry)) (now (notices .entry)) (now (records .entry)) .taken ⌝ }
+    ensures { λ _. ⌜ now («call_fill» .exit) ≡ jobOver (now (text .entry)) (now (job .entry)) (now (roots .entry)) (now (calls .entry)) (now (notices .entry)) (now (records .entry)) .world .state .calls ⌝ }
+    ensures { λ _. ⌜ now («notice_fill» .exit) ≡ jobOver (now (text .entry)) (now (job .entry)) (now (roots .entry)) (now (calls .entry)) (now (notices .entry)) (now (records .entry)) .world .state .notices ⌝ }
+    ensures { λ _. ⌜ now (figure .exit) ≡ jobOver (now (text .entry)) (now (job .entry)) (now (roots .entry)) (now (calls .entry)) (now (notices .entry)) (now (records .entry)) .figure ⌝ }
+    ensures { λ _. ⌜ now (calls .exit) ≡ jobOver (now (text .entry)) (now (job .entry)) (now (roots .entry)) (now (calls .entry)) (now (notices .entry)) (now (records .entry)) .world .calls ⌝ }
+    ensures { λ _. ⌜ now (notices .exit) ≡ jobOver (now (text .entry)) (now (job .entry)) (now (roots .entry)) (now (calls .entry)) (now (notices .entry)) (now (records .entry)) .world .notices ⌝ }
+    ensures { λ _. ⌜ now (records .exit) ≡ jobOver (now (text .entry)) (now (job .entry)) (now (roots .entry)) (now (calls .entry)) (now (notices .entry)) (now (records .entry)) .records ⌝ }
+{
+    let opening = open_job(text, job);
+    let opened = opening.answer;
+    let from = opening.state;
+    match opened {
+        Answer::Refused(_) => {
+            *stage = 0;
+            *taken = 0;
+            *call_fill = from.calls;
+            *notice_fill = from.notices;
+            *figure = figure_by(opened, 0);
+            number_by(opened)
+        }
+        Answer::Accepted => {
+            let lowered = lower_list(text, from, roots, calls, notices);
+            let told = lowered.answer;
+            let next = lowered.state;
+            *taken = lowered.taken;
+            *call_fill = next.calls;
+            *notice_fill = next.notices;
+            match told {
+                Answer::Refused(_) => {
+                    *stage = 1;
+                    *figure = figure_by(told, 0);
+                    number_by(told)
+                }
+                Answer::Accepted => {
+                    *stage = 2;
+                    tell_records(text, next, records, figure)
+                }
+            }
+        }
+    }
 }

@@ -4,8 +4,9 @@
 --     bad-tape, not-fitting                       the tape's own refusals, and 9, 10, 11
 --     good-tape, fits                             a tape that reads, and what it says of a root's output that it fits
 --     equations                                   the three equations of an outcome
+--     known, known-judged, going-after            where text and state are in order already, and that they are behind an accepted root
 -- Assumes nothing.
-use mathlib.Core.Path.{_≡_, refl, sym, _∙_}
+use mathlib.Core.Path.{_≡_, refl, sym, ap, _∙_}
 use mathlib.Core.Bool.{true, false, not, _||_}
 use mathlib.Core.List.{List}
 use Prim.Native.Nat.{ℕ, _-_, _≤_, _<_}
@@ -25,12 +26,13 @@ use Rattle.definitions.specs.Judging.{Parsed, done, stop, Judged, accepted, ref
 use Rattle.definitions.specs.Tree.{Root}
 use Rattle.definitions.specs.Reading.{readRoot}
 use Rattle.definitions.specs.States.{live, imports, sound, overfilled}
-use Rattle.definitions.specs.Entries.{Lowered, loweredAfter, fitted, judgeRoot, Outcome, outcomeBy, rootOutcome}
-use Rattle.definitions.proofs.Verdicts.{past}
+use Rattle.definitions.specs.Entries.{Lowered, loweredAfter, fitted, judgeRoot, moved, Outcome, outcomeBy, rootOutcome}
+use Rattle.definitions.proofs.Verdicts.{past, past-at, length-laid, sound-parts, Taken, root-taken}
+use Rattle.definitions.proofs.Moving.{root-sound}
 use Rattle.definitions.proofs.Counting.{either-false}
 use Rattle.roots.specs.declared.check.Checked.the-variants as checks
 use Rattle.roots.specs.Checking.{checked}
-use Rattle.lowering.specs.Steps.{Text, Unforged, judgeTape, tapeOutcome, answerOf, Comes}
+use Rattle.lowering.specs.Steps.{Text, Going, Unforged, judgeTape, tapeOutcome, answerOf, Comes}
 
 pub equations : {o : Outcome} {t : Stepped} {cs ns : List ℕ} → Comes o t cs ns → (t ≡ o .stepped) × ((cs ≡ o .calls) × (ns ≡ o .notices))
 equations c = (c .answered, (c .called, c .noticed))
@@ -82,6 +84,10 @@ module _ (text : List ℕ) (s : State) (tape cs ns : List ℕ) (x : Text text ta
     unfolding rootOutcome tapeOutcome judgeRoot judgeTape refuse refuseAt
     judged c = rw (le-ltb 65535 (length text) (x .short), le-ltb 65535 (length tape) (x .tape-short), x .formed, f) c
 
+-- a state that is not forged has no more than eight records
+pub few-records : {text : List ℕ} {s : State} {tape : List ℕ} {callRoom noticeRoom : ℕ} → Unforged text s tape callRoom noticeRoom → s .count ≤ 8
+few-records {text} {s} u = sound-parts text s (u .bore) .few
+
 -- ---- the tape
 
 stopped : {A B : Type 0} (x : Parsed A) (k : A → Judged B) (f : Fault) (p : ℕ) → checked x ≡ checks.Bad f p → read x k ≡ refused (refusal.Tape f p)
@@ -127,3 +133,44 @@ fits s callRoom noticeRoom l e =
     let g = past _ _ _ _ (f .1) in
     let h = past _ _ _ _ (g .1) in
     (ltb-false _ _ (f .0), ltb-false _ _ (g .0), ltb-false _ _ (h .0), w .1 ∙ sym (h .1))
+
+-- ---- text and state that are in order already
+
+module _ (text : List ℕ) (s : State) (tape cs ns : List ℕ) (g : Going text s (length cs) (length ns)) (short : length tape ≤ 65535) where
+  in-order : Text text tape
+  in-order = record { short = g .short; tape-short = short; formed = g .formed }
+
+  not-forged : (not (sound text s) || overfilled s (length cs) (length ns)) ≡ false
+  not-forged = rw (g .bore, le-ltb (length cs) (s .calls) (g .calls-within), le-ltb (length ns) (s .notices) (g .notices-within))
+
+  pub known : Unforged text s tape (length cs) (length ns)
+  known = unforged text s tape cs ns in-order not-forged
+
+  pub known-judged : {t : Stepped} {cs′ ns′ : List ℕ} → Comes (tapeOutcome text s tape cs ns) t cs′ ns′ → Comes (rootOutcome text s tape cs ns) t cs′ ns′
+  known-judged c = judged text s tape cs ns in-order not-forged c
+
+-- behind an accepted root they are
+going-on : (text : List ℕ) (s : State) (tape cs ns : List ℕ) → rootOutcome text s tape cs ns .stepped .answer ≡ answer.Accepted
+    → Going text (rootOutcome text s tape cs ns .stepped .state) (length (rootOutcome text s tape cs ns .calls)) (length (rootOutcome text s tape cs ns .notices))
+unfolding rootOutcome outcomeBy judgeRoot moved
+going-on text s tape cs ns e = go (judgeRoot text s tape (length cs) (length ns)) refl e
+  where
+    go : (j : Judged Lowered) → judgeRoot text s tape (length cs) (length ns) ≡ j → outcomeBy s cs ns j .stepped .answer ≡ answer.Accepted
+        → Going text (outcomeBy s cs ns j .stepped .state) (length (outcomeBy s cs ns j .calls)) (length (outcomeBy s cs ns j .notices))
+    go (accepted l) f h =
+        let t : Taken text s tape (length cs) (length ns) l = root-taken text s tape (length cs) (length ns) l f in
+        let long = past _ _ _ _ f in
+        let ill = past-at _ _ _ _ (long .1) in
+        record {
+          short = ltb-false 65535 (length text) (either-false (ltb 65535 (length text)) (ltb 65535 (length tape)) (long .0) .0);
+          formed = ill .0;
+          bore = root-sound text s tape (length cs) (length ns) l f;
+          calls-within = rw (length-laid (s .calls) (l .calls) cs (t .calls-fit)) (t .calls-fit);
+          notices-within = rw (length-laid (s .notices) (l .notices) ns (t .notices-fit)) (t .notices-fit);
+        }
+    go (refused r) f h = let z : _≡_ {A = ℕ} 0 1 = cc in absurd (omega arith)
+
+pub going-after : (text : List ℕ) (s : State) (tape cs ns : List ℕ) {t : Stepped} {cs′ ns′ : List ℕ} → Comes (rootOutcome text s tape cs ns) t cs′ ns′
+    → t .answer ≡ answer.Accepted → Going text (t .state) (length cs′) (length ns′)
+going-after text s tape cs ns {t} c e =
+    rw (c .answered, c .called, c .noticed) (going-on text s tape cs ns (sym (ap (λ (x : Stepped). x .answer) (c .answered)) ∙ e))

@@ -23,6 +23,14 @@ pub record Text (text tape : List ℕ) : Type 0 where
   pub tape-short : length tape ≤ 65535
   pub formed : firstIll text ≡ Nothing
 
+-- the text is in order and the state is not forged, over targets of these lengths
+pub record Going (text : List ℕ) (s : State) (callRoom noticeRoom : ℕ) : Type 0 where
+  pub short : length text ≤ 65535
+  pub formed : firstIll text ≡ Nothing
+  pub bore : sound text s ≡ true
+  pub calls-within : s .calls ≤ callRoom
+  pub notices-within : s .notices ≤ noticeRoom
+
 -- and the state is not forged, over targets of these lengths
 pub record Unforged (text : List ℕ) (s : State) (tape : List ℕ) (callRoom noticeRoom : ℕ) : Type 0 where
   pub spelled : Text text tape

@@ -3,6 +3,7 @@ pub mod series;
 
 ghost use mathlib.Core.Path.{_≡_};
 ghost use mathlib.Core.Bool.{false};
+ghost use Prim.Native.Nat.{_≤_};
 ghost use lib.ListN.{length};
 ghost use Rattle.definitions.specs.declared.state.Answer.the-variants.{Accepted, Refused};
 ghost use Rattle.definitions.specs.Entries.{rootOutcome};
@@ -31,6 +32,7 @@ fn refused(state: State, refusal: Refusal) -> Stepped
 
 // A pen over the state's records, at these places.
 fn pen_over(state: State, calls: usize, notices: usize) -> Pen
+    requires { ⌜ state .count ≤ 8 ⌝ }
     ensures { λ r. ⌜ r ≡ record { calls = calls; notices = notices; store = storeOf state; full = false } ⌝ }
 {
     let records = state.records;
@@ -39,7 +41,7 @@ fn pen_over(state: State, calls: usize, notices: usize) -> Pen
         notices,
         store: Store {
             records,
-            count: state.count,
+            count: state.count as u8,
         },
         full: false,
     }
@@ -95,7 +97,7 @@ fn write(text: &[u8], state: State, tape: &[u8], calls: &mut [u8], notices: &mut
         state: State {
             settings,
             records,
-            count: store.count,
+            count: store.count as usize,
             calls: pen.calls,
             notices: pen.notices,
         },

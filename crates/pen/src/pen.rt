@@ -15,10 +15,10 @@ use tape::target;
 use text::spans::Span;
 
 pub struct Pen {
-    pub calls: usize,
-    pub notices: usize,
     pub store: Store,
     pub full: bool,
+    pub notices: usize,
+    pub calls: usize,
 }
 
 // A command with no operand.

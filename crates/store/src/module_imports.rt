@@ -17,7 +17,7 @@ use text::utf8::first_ill_formed;
 // The first `count` of the records: what a job binds, in order of making.
 pub struct Store {
     pub records: [Record; 8],
-    pub count: usize,
+    pub count: u8,
 }
 
 // The store with an import, and the import's number; or the store as it was, and that it has no number left.
@@ -31,7 +31,7 @@ pub struct Added {
 pub fn add_import(store: Store, import: Import) -> Added
     ensures { λ r. ⌜ r ≡ added store import ⌝ }
 {
-    let count = store.count;
+    let count = store.count as usize;
     if 8 < count {
         return Added {
             store,
@@ -55,7 +55,7 @@ pub fn add_import(store: Store, import: Import) -> Added
         return Added {
             store: Store {
                 records: longer,
-                count: count + 1,
+                count: binding + 1,
             },
             number: binding,
             full: false,

@@ -1,5 +1,6 @@
 // Lines of what the store answers.
 ghost use Prim.Native.Nat.{_≤_};
+use crate::states::count_of;
 use definitions::records::Import;
 use definitions::state::State;
 use definitions::state::Written;
@@ -78,7 +79,7 @@ pub fn show_added(label: &[u8], state: State, import: Import) {
     let records = state.records;
     let store = Store {
         records,
-        count: state.count,
+        count: count_of(state),
     };
     let added = add_import(store, import);
     io::write_all(STDOUT_FILENO, label);
@@ -88,6 +89,6 @@ pub fn show_added(label: &[u8], state: State, import: Import) {
         say(b": number ", added.number as usize);
     }
     let after = added.store;
-    say(b" of ", after.count);
+    say(b" of ", after.count as usize);
     io::write_all(STDOUT_FILENO, b"\n");
 }

@@ -106,13 +106,22 @@ pub fn opened(settings: Settings) -> State {
     }
 }
 
+// How many records a state says that it has, as a store says it.
+pub fn count_of(state: State) -> u8 {
+    let count = state.count;
+    if 255 < count {
+        return 255;
+    }
+    count as u8
+}
+
 // The state with an import bound as a root binds it.
 pub fn bind(state: State, import: Import) -> State {
     let settings = state.settings;
     let records = state.records;
     let store = Store {
         records,
-        count: state.count,
+        count: count_of(state),
     };
     let added = add_import(store, import);
     let after = added.store;
@@ -120,7 +129,7 @@ pub fn bind(state: State, import: Import) -> State {
     State {
         settings,
         records: longer,
-        count: after.count,
+        count: after.count as usize,
         calls: state.calls,
         notices: state.notices,
     }

@@ -1,26 +1,17 @@
 -- `withValues` and `sameValues`: a loop's steps. Assumes nothing.
-use mathlib.Core.Path.{_≡_, refl, sym, ap, _∙_}
+use mathlib.Core.Path.{_≡_, sym, ap, _∙_}
 use mathlib.Core.List.{List}
 use Prim.Native.Nat.{ℕ, _+_, _≤_, _<_}
 use native.Mathlib.Omega.{arith}
-use lib.ListN.{length, getD, set, take, drop, drop-of-length-le}
+use lib.ListN.{length, getD, take, drop, drop-of-length-le}
 use lib.Seq.{getD-take, length-take-le}
-use mathlib.Core.Bool.{Bool, true, false, cond}
-use lib.Dec.{ltb}
-use borrow.Author.Tests.{eq-eqb, le-leb, ltb-true}
+use mathlib.Core.Bool.{true, false}
+use borrow.Author.Tests.{eq-eqb, le-leb}
 use Rattle.vectors.specs.declared.answers.Answer.{Answer}
 use Rattle.vectors.specs.Answers.{withValue, withValues, sameValues}
 use Rattle.text.specs.Bytes.{same}
 use Rattle.text.proofs.Comparing.{same-differ, same-step, same-end}
 use Rattle.text.proofs.Lists.{drop-one}
-
-pub values-most : (a : Answer) (x : ℕ) → withValue a x .n ≤ 17
-unfolding withValue
-values-most a x = go (ltb (a .n) 16) refl
-  where
-    go : (t : Bool) → ltb (a .n) 16 ≡ t → cond {A = Answer} t (record { n = a .n + 1; v = set (a .v) (a .n) x }) (record { n = 17; v = a .v }) .n ≤ 17
-    go true e = let h : a .n < 16 = ltb-true (a .n) 16 e in omega arith
-    go false e = omega arith
 
 pub values-step : (a : Answer) (s : List ℕ) (i : ℕ) → i < length s
     → withValues a (drop i s) ≡ withValues (withValue a (getD s i 0)) (drop (i + 1) s)

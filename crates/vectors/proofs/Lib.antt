@@ -1,4 +1,5 @@
 pub mod Places
+pub mod Walking
 pub mod Digits
 pub mod Pairs
 pub mod Folding

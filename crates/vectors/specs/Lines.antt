@@ -1,7 +1,7 @@
--- Places in a text: the end of a line, a word. A part of a text before or behind a byte.
-use Prim.Native.Nat.{ℕ, _+_, _≤_, min}
-use mathlib.Core.Bool.{Bool, not, _||_}
-use mathlib.Core.List.{List, []}
+-- Places in a text: the end of a line, a word. All words of a text. A part of a text before or behind a byte.
+use Prim.Native.Nat.{ℕ, zero, suc, _+_, _-_, _≤_, min}
+use mathlib.Core.Bool.{Bool, cond, not, _||_}
+use mathlib.Core.List.{List, [], _∷_}
 use lib.ListN.{length, take, drop}
 use lib.Dec.{eqb}
 use Rattle.text.specs.declared.bytes.Found.{Found}
@@ -43,6 +43,19 @@ pub record WordWithin (from n : ℕ) (w : Word) : Type 0 where
   pub low : min from n ≤ w .start
   pub ends : w .start ≤ w .end
   pub high : w .end ≤ n
+
+-- a word's bytes and the words behind it: none where it is empty, which it is at the text's end only
+abbrev wordThen : List ℕ → Word → List (List ℕ) → List (List ℕ)
+wordThen s w behind = cond (eqb (w .start) (w .end)) [] (take (w .end - w .start) (drop (w .start) s) ∷ behind)
+
+-- the words from `from` on, at most so many
+unfoldable pub wordsFrom : ℕ → List ℕ → ℕ → List (List ℕ)
+wordsFrom zero s from = []
+wordsFrom (suc most) s from = wordThen s (wordFrom s from) (wordsFrom most s (wordFrom s from .end))
+
+-- the words of a text: no more than it has bytes
+unfoldable pub words : List ℕ → List (List ℕ)
+words s = wordsFrom (length s) s 0
 
 -- what stands before the place that was found: all where there is none
 abbrev pub front : Found → List ℕ → List ℕ

@@ -1,7 +1,7 @@
 // What was computed and what is expected: a few values in order.
 ghost use mathlib.Core.Path.{_≡_};
-ghost use Prim.Native.Nat.{_≤_};
-ghost use lib.ListN.{replicate};
+ghost use mathlib.Core.List.{map};
+ghost use Rattle.vectors.specs.Lines.{words};
 ghost use Rattle.vectors.specs.Values.{valueOf};
 ghost use Rattle.vectors.specs.Answers.{empty, withValue, withValues, sameValues};
 use crate::lines::next_word;
@@ -58,11 +58,11 @@ pub fn named(word: &[u8]) -> Answer
 
 // The values of the words of s.
 pub fn values_of(s: &[u8]) -> Answer
-    ensures { λ r. ⌜ r .n ≤ 17 ⌝ }
+    ensures { λ r. ⌜ r ≡ withValues empty (map valueOf (words (now (s .entry)))) ⌝ }
 {
     let mut a = no_values();
     let mut at = 0;
-    while at < s.len() {
+    loop {
         let w = next_word(s, at);
         let start = w.start;
         let end = w.end;
@@ -72,7 +72,6 @@ pub fn values_of(s: &[u8]) -> Answer
         a = with_value(a, value_of(&s[start..end]));
         at = end;
     }
-    a
 }
 
 pub fn same_values(a: Answer, b: Answer) -> bool

@@ -1,11 +1,10 @@
 // Lines of a text, words of a line, and the parts of a line around a byte.
 ghost use mathlib.Core.Path.{_≡_};
-ghost use Prim.Native.Nat.{_+_, _≤_, min};
-ghost use lib.ListN.{length, take, drop};
+ghost use lib.ListN.{length};
 ghost use lib.Dec.{eqb};
 ghost use Rattle.text.specs.Bytes.{find};
 ghost use Rattle.vectors.specs.declared.lines.Class.the-variants.{LineEnd};
-ghost use Rattle.vectors.specs.Lines.{isBlank, isIn, placeFrom, Within, wordFrom, WordWithin, front, rest};
+ghost use Rattle.vectors.specs.Lines.{isBlank, isIn, placeFrom, Within, wordFrom, WordWithin, words, front, rest};
 use text::bytes::Found;
 use text::bytes::find_byte;
 
@@ -74,11 +73,11 @@ pub fn next_word(s: &[u8], from: usize) -> Word
 
 // How many words there are.
 pub fn word_count(s: &[u8]) -> usize
-    ensures { λ r. ⌜ r ≤ length (now (s .entry)) ⌝ }
+    ensures { λ r. ⌜ r ≡ length (words (now (s .entry))) ⌝ }
 {
     let mut n = 0;
     let mut at = 0;
-    while at < s.len() {
+    loop {
         let w = next_word(s, at);
         if w.start == w.end {
             return n;
@@ -86,7 +85,6 @@ pub fn word_count(s: &[u8]) -> usize
         n += 1;
         at = w.end;
     }
-    n
 }
 
 // What stands before the first b: all of s where there is none.

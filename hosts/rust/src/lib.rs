@@ -16,18 +16,19 @@
 #[cfg(not(all(target_arch = "x86_64", target_os = "linux")))]
 compile_error!("libjsxlib.a is compiled for x86-64 Linux");
 
+mod lists;
 mod raw;
 mod refusal;
 mod settings;
+mod workspace;
 
-pub use refusal::Refusal;
+use lists::{behind, put_list, too_long, LONGEST};
+pub use refusal::{JobRefusal, Refusal, RootRefusal};
 pub use settings::{Settings, Span};
+pub use workspace::{Output, Workspace};
 
 /// How many bytes a job's state has.
 pub const STATE_SIZE: usize = 102;
-
-// A longer tape is refused.
-const LONGEST: usize = 65_535;
 
 /// A job over a text: its state, and what its roots gave so far.
 #[derive(Clone, Debug)]
@@ -63,7 +64,7 @@ impl Target {
     }
 }
 
-/// What one root added.
+/// What a root, or several in turn, added.
 #[derive(Clone, Copy, Debug, PartialEq, Eq)]
 pub struct Lowered<'j> {
     pub calls: &'j [u8],
@@ -132,6 +133,48 @@ impl<'t> Job<'t> {
 
     fn lower_into_targets(&mut self, root: &[u8]) -> Result<(), Refusal> {
         raw::root(self.text, &mut self.state, root, &mut self.calls.bytes, &mut self.notices.bytes)
+    }
+
+    /// Lowers roots in turn, up to the first that is refused, which leaves the job as those before it made it. The text is tested once for all of
+    /// them, while `lower_root` tests it for each. Where all roots are at hand from the beginning, `Workspace::lower` is quicker still.
+    pub fn lower_roots<R: AsRef<[u8]>>(&mut self, roots: &[R]) -> Result<Lowered<'_>, RootRefusal> {
+        let (calls, notices) = (self.calls.filled, self.notices.filled);
+        let too_long = too_long(roots);
+        let mut list = Vec::new();
+        put_list(&roots[..too_long.unwrap_or(roots.len())], &mut list);
+        self.lower_list(&list)?;
+        if let Some(index) = too_long {
+            return Err(RootRefusal { index, refusal: Refusal::TooLong });
+        }
+        Ok(Lowered {
+            calls: &self.calls.written()[calls..],
+            notices: &self.notices.written()[notices..],
+        })
+    }
+
+    // Room is made as in `lower_with_room`: where it does not do, the list goes on from the root that wants more.
+    fn lower_list(&mut self, mut list: &[u8]) -> Result<(), RootRefusal> {
+        self.calls.make_room(4 * list.len() + 6 * self.text.len());
+        self.notices.make_room(list.len());
+        let mut index = 0;
+        while !list.is_empty() {
+            let (taken, answer) = raw::roots(
+                self.text,
+                &mut self.state,
+                list,
+                &mut self.calls.bytes,
+                &mut self.notices.bytes,
+            );
+            index += taken;
+            list = behind(list, taken);
+            let refused = |refusal| RootRefusal { index, refusal };
+            (self.calls.filled, self.notices.filled) = raw::fills(&self.state).map_err(refused)?;
+            match answer {
+                Err(Refusal::Space { needed }) => self.calls.make_room(needed),
+                answer => answer.map_err(refused)?,
+            }
+        }
+        Ok(())
     }
 
     /// The record tape: the imports, requires and file name that the calls so far mention.

@@ -24,6 +24,20 @@ extern "C" {
         notices_len: usize,
         figure: *mut usize,
     ) -> u8;
+    fn jsx_roots(
+        text: *const u8,
+        text_len: usize,
+        state: *mut u8,
+        state_len: usize,
+        roots: *const u8,
+        roots_len: usize,
+        calls: *mut u8,
+        calls_len: usize,
+        notices: *mut u8,
+        notices_len: usize,
+        taken: *mut usize,
+        figure: *mut usize,
+    ) -> u8;
     fn jsx_records(
         text: *const u8,
         text_len: usize,
@@ -31,6 +45,25 @@ extern "C" {
         state_len: usize,
         target: *mut u8,
         target_len: usize,
+        figure: *mut usize,
+    ) -> u8;
+    fn jsx_job(
+        text: *const u8,
+        text_len: usize,
+        job: *const u8,
+        job_len: usize,
+        roots: *const u8,
+        roots_len: usize,
+        calls: *mut u8,
+        calls_len: usize,
+        notices: *mut u8,
+        notices_len: usize,
+        records: *mut u8,
+        records_len: usize,
+        stage: *mut usize,
+        taken: *mut usize,
+        call_fill: *mut usize,
+        notice_fill: *mut usize,
         figure: *mut usize,
     ) -> u8;
     fn jsx_fills(state: *const u8, state_len: usize, calls: *mut usize, notices: *mut usize) -> u8;
@@ -81,6 +114,34 @@ pub fn root(
     Refusal::told(number, figure)
 }
 
+// How many roots of the list were lowered, and what ended it.
+pub fn roots(
+    text: &[u8],
+    state: &mut [u8; STATE_SIZE],
+    roots: &[u8],
+    calls: &mut [u8],
+    notices: &mut [u8],
+) -> (usize, Result<(), Refusal>) {
+    let (mut taken, mut figure) = (0, 0);
+    let number = unsafe {
+        jsx_roots(
+            text.as_ptr(),
+            text.len(),
+            state.as_mut_ptr(),
+            state.len(),
+            roots.as_ptr(),
+            roots.len(),
+            calls.as_mut_ptr(),
+            calls.len(),
+            notices.as_mut_ptr(),
+            notices.len(),
+            &mut taken,
+            &mut figure,
+        )
+    };
+    (taken, Refusal::told(number, figure))
+}
+
 // How many bytes were written.
 pub fn records(text: &[u8], state: &[u8; STATE_SIZE], target: &mut [u8]) -> Result<usize, Refusal> {
     let mut figure = 0;
@@ -103,4 +164,48 @@ pub fn fills(state: &[u8; STATE_SIZE]) -> Result<(usize, usize), Refusal> {
     let (mut calls, mut notices) = (0, 0);
     let number = unsafe { jsx_fills(state.as_ptr(), state.len(), &mut calls, &mut notices) };
     Refusal::told(number, 0).map(|()| (calls, notices))
+}
+
+// How far a whole job came.
+#[derive(Default)]
+pub struct JobRun {
+    pub stage: usize,
+    pub taken: usize,
+    pub call_fill: usize,
+    pub notice_fill: usize,
+    pub figure: usize,
+}
+
+pub fn job(
+    text: &[u8],
+    job: &[u8],
+    roots: &[u8],
+    calls: &mut [u8],
+    notices: &mut [u8],
+    records: &mut [u8],
+) -> (JobRun, Result<(), Refusal>) {
+    let mut run = JobRun::default();
+    let number = unsafe {
+        jsx_job(
+            text.as_ptr(),
+            text.len(),
+            job.as_ptr(),
+            job.len(),
+            roots.as_ptr(),
+            roots.len(),
+            calls.as_mut_ptr(),
+            calls.len(),
+            notices.as_mut_ptr(),
+            notices.len(),
+            records.as_mut_ptr(),
+            records.len(),
+            &mut run.stage,
+            &mut run.taken,
+            &mut run.call_fill,
+            &mut run.notice_fill,
+            &mut run.figure,
+        )
+    };
+    let answer = Refusal::told(number, run.figure);
+    (run, answer)
 }

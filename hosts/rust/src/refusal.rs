@@ -81,3 +81,49 @@ impl fmt::Display for Refusal {
 }
 
 impl Error for Refusal {}
+
+/// Which root of several was turned away, counted from 0, and why. Those before it are lowered.
+#[derive(Clone, Copy, Debug, PartialEq, Eq)]
+pub struct RootRefusal {
+    pub index: usize,
+    pub refusal: Refusal,
+}
+
+impl fmt::Display for RootRefusal {
+    fn fmt(&self, f: &mut fmt::Formatter<'_>) -> fmt::Result {
+        write!(f, "root {}: {}", self.index, self.refusal)
+    }
+}
+
+impl Error for RootRefusal {
+    fn source(&self) -> Option<&(dyn Error + 'static)> {
+        Some(&self.refusal)
+    }
+}
+
+/// Which part of a whole job was turned away, and why.
+#[derive(Clone, Copy, Debug, PartialEq, Eq)]
+pub enum JobRefusal {
+    Opening(Refusal),
+    Root(RootRefusal),
+    Records(Refusal),
+}
+
+impl fmt::Display for JobRefusal {
+    fn fmt(&self, f: &mut fmt::Formatter<'_>) -> fmt::Result {
+        match self {
+            JobRefusal::Opening(refusal) => write!(f, "opening: {refusal}"),
+            JobRefusal::Root(refusal) => refusal.fmt(f),
+            JobRefusal::Records(refusal) => write!(f, "records: {refusal}"),
+        }
+    }
+}
+
+impl Error for JobRefusal {
+    fn source(&self) -> Option<&(dyn Error + 'static)> {
+        match self {
+            JobRefusal::Opening(refusal) | JobRefusal::Records(refusal) => Some(refusal),
+            JobRefusal::Root(refusal) => refusal.source(),
+        }
+    }
+}

@@ -1,5 +1,5 @@
 // The specification's example, its refusals, and states that nobody made.
-use jsx_lowering::{Job, Refusal, Settings, Span};
+use jsx_lowering::{Job, JobRefusal, Refusal, RootRefusal, Settings, Span, Workspace};
 
 // <a/>, <b key/> and so on: an element at line 0, column 0, in a function
 fn root(rest: &[u8]) -> Vec<u8> {
@@ -53,15 +53,111 @@ fn roots_in_turn_share_a_binding() {
     assert_eq!(job.records().unwrap(), [0xb0, 1, 0xb1, 2, 0]);
 }
 
-// 30,000 lines, eight times over: more than what there is room for at first
+// several at once give what each alone gives
 #[test]
-fn texts_that_overlap() {
-    let text = "a\n".repeat(30_000);
+fn roots_as_a_list() {
+    let keyed = root(&[0x20, 0, 0, 1, 0, 0x30, 1, 0, 3, 0, 0x40, 0x1e, 0x1f]);
+    let roots = [root(&A), keyed, root(&A)];
+    let (mut one_by_one, mut listed) = (open(b"akey"), open(b"akey"));
+    for root in &roots {
+        one_by_one.lower_root(root).unwrap();
+    }
+    let lowered = listed.lower_roots(&roots).unwrap();
+    assert_eq!((lowered.calls, lowered.notices), (one_by_one.calls(), one_by_one.notices()));
+    assert_eq!(listed.state(), one_by_one.state());
+    assert_eq!(listed.lower_roots(&roots[..1]).unwrap().calls, CALLS);
+    assert_eq!(listed.lower_roots::<Vec<u8>>(&[]).unwrap().calls, []);
+}
+
+// a list ends at the first root that is refused; those before it stay
+#[test]
+fn a_refused_root_of_a_list() {
+    let ampersand = root(&[0x20, 0, 0, 1, 0, 0x1e, 0x50, 1, 0, 1, 0, 0x1f]);
+    let mut job = open(b"a&");
+    let told = job.lower_roots(&[root(&A), root(&A), ampersand, root(&A)]).unwrap_err();
+    assert_eq!(told, RootRefusal { index: 2, refusal: Refusal::Ampersand { at: 19 } });
+    assert!(told.to_string().starts_with("root 2: the command at byte 19"));
+    assert_eq!(job.calls(), [CALLS, CALLS].concat());
+    let long = vec![1; 65_536];
+    let told = job.lower_roots(&[root(&A), long, vec![]]).unwrap_err();
+    assert_eq!(told, RootRefusal { index: 1, refusal: Refusal::TooLong });
+    assert_eq!(job.calls(), [CALLS, CALLS, CALLS].concat());
+    let told = job.lower_roots(&[vec![], root(&A)]).unwrap_err();
+    assert_eq!(told, RootRefusal { index: 0, refusal: Refusal::Command { at: 0 } });
+    assert_eq!(job.calls().len(), 3 * CALLS.len());
+}
+
+// eight texts of 30,000 lines that overlap: more than what there is room for at first
+fn lines() -> String {
+    "a\n".repeat(30_000)
+}
+
+fn overlapping() -> Vec<u8> {
     let mut tape = root(&A[..6]);
     for _ in 0..8 {
         tape.extend_from_slice(&[0x50, 0, 0, 0x60, 0xea]);
     }
     tape.push(0x1f);
+    tape
+}
+
+#[test]
+fn texts_that_overlap_on_a_list() {
+    let text = lines();
+    let roots = [root(&A), overlapping(), root(&A), overlapping()];
+    let (mut one_by_one, mut listed) = (open(text.as_bytes()), open(text.as_bytes()));
+    for root in &roots {
+        one_by_one.lower_root(root).unwrap();
+    }
+    listed.lower_roots(&roots).unwrap();
+    assert!(listed.calls() == one_by_one.calls() && listed.state() == one_by_one.state());
+}
+
+// a whole job gives what its parts give, also with memory that was used before
+#[test]
+fn a_whole_job() {
+    let text = lines();
+    let (text, tape) = (text.as_bytes(), settings().tape());
+    let roots = [root(&A), overlapping(), root(&A)];
+    let mut parts = open(text);
+    for root in &roots {
+        parts.lower_root(root).unwrap();
+    }
+    let mut workspace = Workspace::default();
+    for roots in [&roots[..], &roots[..1], &[]] {
+        workspace.lower(text, &tape, roots).unwrap();
+    }
+    let whole = workspace.lower(text, &tape, &roots).unwrap();
+    assert!(whole.calls == parts.calls() && whole.notices == parts.notices());
+    assert_eq!(whole.records(), parts.records().unwrap());
+    let none: [Vec<u8>; 0] = [];
+    let empty = workspace.lower(text, &tape, &none).unwrap();
+    assert_eq!((empty.calls, empty.notices, empty.records()), (&[][..], &[][..], &[][..]));
+}
+
+#[test]
+fn a_refused_job() {
+    let mut workspace = Workspace::default();
+    let tape = settings().tape();
+    let mut told = |text: &[u8], tape: &[u8], roots: &[Vec<u8>]| {
+        workspace.lower(text, tape, roots).map(|output| output.calls.len()).unwrap_err()
+    };
+    let opening = JobRefusal::Opening;
+    let at = |index, refusal| JobRefusal::Root(RootRefusal { index, refusal });
+    assert_eq!(told(b"a\xff", &tape, &[root(&A)]), opening(Refusal::NotUtf8 { at: 1 }));
+    assert_eq!(told(b"a", &[0x61], &[vec![]]), opening(Refusal::Command { at: 1 }));
+    assert_eq!(told(b"a", &tape, &[vec![]]), at(0, Refusal::Command { at: 0 }));
+    let ampersand = root(&[0x20, 0, 0, 1, 0, 0x1e, 0x50, 1, 0, 1, 0, 0x1f]);
+    assert_eq!(told(b"a&", &tape, &[root(&A), ampersand]), at(1, Refusal::Ampersand { at: 19 }));
+    assert_eq!(told(b"a", &tape, &[root(&A), vec![1; 65_536]]), at(1, Refusal::TooLong));
+    let words = told(b"a", &tape, &[root(&A), vec![]]).to_string();
+    assert!(words.starts_with("root 1: the tape has a command"));
+}
+
+#[test]
+fn texts_that_overlap() {
+    let text = lines();
+    let tape = overlapping();
     let mut job = open(text.as_bytes());
     let string = 2 + 30_000 * 5 + 29_999;
     assert_eq!(job.lower_root(&tape).unwrap().calls.len(), 20 + 8 * string);
@@ -136,6 +232,8 @@ fn forged_states() {
         state[place] = byte;
         let mut forged = resume(&state).unwrap();
         assert_eq!(forged.lower_root(&root(&A)).unwrap_err(), Refusal::Forged, "byte {place}");
+        let told = forged.lower_roots(&[root(&A)]).unwrap_err();
+        assert_eq!(told, RootRefusal { index: 0, refusal: Refusal::Forged }, "byte {place}");
         assert_eq!(forged.records().unwrap_err(), Refusal::Forged, "byte {place}");
         assert_eq!(*forged.state(), state);
     }

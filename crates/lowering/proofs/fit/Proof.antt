@@ -1,6 +1,7 @@
 use mathlib.Core.Path.{_≡_, sym, _∙_}
 use lib.ListN.{length, length-map}
 use denote.Ref.{now}
+use Rattle.lowering.proofs.Judging.{few-records}
 use Rattle.lowering.proofs.Running.{Counted, counts, no-number, no-room, no-notice-room, all-fits}
 use borrow.Author.Needs.{needs}
 use Rattle.lowering.proofs.fit.Statement.{statement}
@@ -20,7 +21,7 @@ slice-aggregate-lower-2 : tie.Need-slice-aggregate-lower-2
 slice-aggregate-lower-2 c = search needs
 
 pen-over-requires : tie.Need-pen-over-requires
-pen-over-requires c κs = search needs
+pen-over-requires c κs = few-records ((c .before .before .before .before .before .pre) .unforged)
 
 lower-requires : tie.Need-lower-requires
 lower-requires c κs = (c .before .before .before .before .before .before .pre .unforged .spelled .short, c .before .before .before .before .before .before .pre .unforged .spelled .formed)

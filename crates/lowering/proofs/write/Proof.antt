@@ -3,6 +3,7 @@ use Prim.Native.Nat.{_<_, _^_}
 use native.Mathlib.Omega.{arith}
 use lib.ListN.{length, length-map}
 use denote.Ref.{now}
+use Rattle.lowering.proofs.Judging.{few-records}
 use Rattle.lowering.proofs.Running.{written}
 use borrow.Author.Needs.{needs}
 use Rattle.lowering.proofs.write.Statement.{statement}
@@ -15,10 +16,13 @@ short : (c : tie.Start) → (length (now (c .args .calls)) < 2 ^ 63) × (length 
 short c = (omega arith, omega arith)
 
 pen-over-requires : tie.Need-pen-over-requires
-pen-over-requires c κs = search needs
+pen-over-requires c κs = few-records ((c .before .before .before .before .before .before .before .pre) .0 .unforged)
 
 lower-requires : tie.Need-lower-requires
 lower-requires c κs = (c .before .before .before .before .before .before .before .before .pre .0 .unforged .spelled .short, c .before .before .before .before .before .before .before .before .pre .0 .unforged .spelled .formed)
+
+cast-t16 : tie.Need-cast-t16
+cast-t16 c = search needs
 
 same-length : tie.Need-same-length
 same-length c = search needs
@@ -28,9 +32,9 @@ same-length-2 c = search needs
 
 returns : tie.Need-returns
 returns c =
-    let s = c .before .before .before .before .before .before .before .before .before .before .before .before .before .before .before in
-    written (s .pre .0) (s .pre .1) (eight s) (short s .0) (short s .1) (c .before .before .before .before .before .before .before .pen-over .ensures) (c .before .before .before .before .before .before .lower .ensures)
+    let s = (c .before .before .before .before .before .before .before .before .before .before .before .before .before .before .before .before) in
+    written (s .pre .0) (s .pre .1) (eight s) (short s .0) (short s .1) ((c .before .before .before .before .before .before .before .before .pen-over) .ensures) ((c .before .before .before .before .before .before .before .lower) .ensures)
 
 pub write-spec : {M : Type 1} → statement M
 write-spec =
-    tie.close (tie.spec pen-over-requires lower-requires same-length same-length-2 returns)
+    tie.close (tie.spec pen-over-requires lower-requires cast-t16 same-length same-length-2 returns)

@@ -8,35 +8,53 @@ use std::{
     time::{Duration, Instant},
 };
 
-use jsx_lowering::Refusal;
+use jobs::{Kind, kinds};
+use jsx_lowering::Workspace;
 use oracle::measured::{Job, Output};
-use sheets::{Kind, kinds};
 
 mod arena;
-mod sheets;
+mod jobs;
 
 #[global_allocator]
-static MEMORY: arena::Memory = arena::Memory::new();
+static ALLOCATOR: arena::Memory = arena::Memory::new();
 
 const ROUNDS: usize = 21;
 
 /// The memory of the port's targets, which goes from job to job and is not cleared.
-type Buffers = (Vec<u8>, Vec<u8>);
-
-/// The job by the port: open, every root, the records.
-fn port<'j>(job: &'j Job, buffers: Buffers) -> Result<(jsx_lowering::Job<'j>, Vec<u8>), Refusal> {
-    let mut open = jsx_lowering::Job::open_in(job.text.as_bytes(), &job.opening, buffers)?;
-    for root in &job.roots {
-        open.lower_root(root)?;
-    }
-    let records = open.records()?;
-    Ok((open, records))
+#[derive(Default)]
+struct Memory {
+    workspace: Workspace,
+    buffers: (Vec<u8>, Vec<u8>),
 }
 
-fn port_output(job: &Job) -> Result<Output, Refusal> {
-    let (open, records) = port(job, Buffers::default())?;
-    let (calls, notices) = open.into_tapes();
-    Ok(Output { calls, notices, records })
+/// The job by the port: open, every root, the records. Hands its calls, notices and records on.
+fn port<T>(
+    job: &Job,
+    one_by_one: bool,
+    memory: &mut Memory,
+    take: impl FnOnce(&[u8], &[u8], &[u8]) -> T,
+) -> Option<T> {
+    let text = job.text.as_bytes();
+    if !one_by_one {
+        let output = memory.workspace.lower(text, &job.opening, &job.roots).ok()?;
+        return Some(take(output.calls, output.notices, output.records()));
+    }
+    let buffers = std::mem::take(&mut memory.buffers);
+    let mut open = jsx_lowering::Job::open_in(text, &job.opening, buffers).ok()?;
+    for root in &job.roots {
+        open.lower_root(root).ok()?;
+    }
+    let taken = take(open.calls(), open.notices(), &open.records().ok()?);
+    memory.buffers = open.into_buffers();
+    Some(taken)
+}
+
+fn port_output(job: &Job, one_by_one: bool) -> Option<Output> {
+    port(job, one_by_one, &mut Memory::default(), |calls, notices, records| Output {
+        calls: calls.to_vec(),
+        notices: notices.to_vec(),
+        records: records.to_vec(),
+    })
 }
 
 fn timed(work: impl FnOnce()) -> Duration {
@@ -48,7 +66,7 @@ fn timed(work: impl FnOnce()) -> Duration {
 /// Runs with the arena. What the jobs take is dropped before it ends, and what the Rust keeps between jobs has grown before.
 fn in_arena(work: impl FnOnce() -> Duration) -> Duration {
     // SAFETY: so nothing that was taken is in use after it.
-    unsafe { MEMORY.with_arena(work) }
+    unsafe { ALLOCATOR.with_arena(work) }
 }
 
 /// Seconds for each byte of the root tapes.
@@ -59,45 +77,37 @@ struct Costs {
     alone: [f64; 2],
 }
 
-/// The time of all jobs of a kind, one after the other, and again.
-fn over(kind: &Kind, repeat: usize, mut work: impl FnMut(&Job) -> Duration) -> Duration {
-    let mut sum = Duration::ZERO;
-    for _ in 0..repeat {
-        for job in &kind.jobs {
-            sum += work(job);
-        }
-    }
-    sum
+/// The jobs of a kind, one after the other, and again.
+fn again(kind: &Kind, repeat: usize) -> impl Iterator<Item = &Job> {
+    (0..repeat).flat_map(|_| &kind.jobs)
 }
 
 fn measure(kind: &Kind) -> Costs {
     let mut times = [const { Vec::new() }; 5];
-    let mut buffers = Buffers::default();
+    let mut memory = Memory::default();
     // rounds of some milliseconds each
     let repeat = 1 + 200_000 / kind.tape_bytes().max(kind.text_bytes());
     for _ in 0..ROUNDS {
         let sums = [
-            over(kind, repeat, |job| {
-                timed(|| {
-                    let (open, records) = port(job, std::mem::take(&mut buffers)).unwrap();
-                    black_box((open.calls(), records));
-                    buffers = open.into_buffers();
-                })
-            }),
-            over(kind, repeat, |job| {
-                timed(|| {
-                    black_box(job.run(true).unwrap());
-                })
-            }),
-            over(kind, repeat, |job| {
-                in_arena(|| {
-                    timed(|| {
-                        black_box(job.run(false).unwrap());
+            timed(|| {
+                for job in again(kind, repeat) {
+                    port(job, kind.one_by_one, &mut memory, |calls, notices, records| {
+                        black_box((calls, notices, records));
                     })
-                })
+                    .unwrap();
+                }
             }),
-            over(kind, repeat, |job| job.lower(true).unwrap()),
-            over(kind, repeat, |job| in_arena(|| job.lower(false).unwrap())),
+            timed(|| {
+                for job in again(kind, repeat) {
+                    black_box(job.run(true).unwrap());
+                }
+            }),
+            // the arena is emptied between jobs, and what is read before a tree is lowered is not measured
+            again(kind, repeat)
+                .map(|job| in_arena(|| timed(|| drop(black_box(job.run(false).unwrap())))))
+                .sum(),
+            again(kind, repeat).map(|job| job.lower(true).unwrap()).sum(),
+            again(kind, repeat).map(|job| in_arena(|| job.lower(false).unwrap())).sum(),
         ];
         for (list, sum) in times.iter_mut().zip(sums) {
             list.push(sum);
@@ -124,7 +134,7 @@ fn main() -> ExitCode {
         [flag, name] if flag == "--port" && kinds.iter().any(|kind| kind.name == name) => {
             let kind = kinds.iter().find(|kind| kind.name == name).unwrap();
             for job in &kind.jobs {
-                black_box(port_output(job).unwrap());
+                black_box(port_output(job, kind.one_by_one).unwrap());
             }
             println!("{}", kind.tape_bytes());
             return ExitCode::SUCCESS;
@@ -138,7 +148,7 @@ fn main() -> ExitCode {
     // Both sides must give the same before anything is measured. It also lets what the Rust keeps between jobs grow.
     for kind in &kinds {
         for (number, job) in kind.jobs.iter().enumerate() {
-            if port_output(job).ok() != job.run(true) {
+            if port_output(job, kind.one_by_one) != job.run(true) {
                 eprintln!("{}, job {number}: the two sides differ", kind.name);
                 return ExitCode::FAILURE;
             }

@@ -25,8 +25,8 @@ same-length c = search needs
 
 returns : tie.Need-returns
 unfolding bareCode byteCode
-returns c = called-then (omega arith) ((c .before .before .before .before .before .before .before .before .before .before .before .put-bare) .ensures call.callee refl)
-    (called-then (omega arith) ((c .before .before .before .before .before .before .before .get-create-element) .ensures) (rw (← (c .before .before .before .pure-byte) .ensures) ((c .before .before .put-byte) .ensures call.callEnd refl)))
+returns c = called-then (omega (arith, (c .before .before .before .before .before .before .before .before .before .before .before .before .before .before))) ((c .before .before .before .before .before .before .before .before .before .before .before .put-bare) .ensures call.callee refl)
+    (called-then (omega (arith, (c .before .before .before .before .before .before .before .before .before .before .before .before .before .before))) ((c .before .before .before .before .before .before .before .get-create-element) .ensures) (rw (← (c .before .before .before .pure-byte) .ensures) ((c .before .before .put-byte) .ensures call.callEnd refl)))
 
 pub closing-spec : {M : Type 1} → statement M
 closing-spec =

@@ -1428,7 +1428,7 @@ behind-transform-jsx-attribute-value-requires :
 behind-transform-jsx-attribute-value-requires t c κs = (omega (arith, part-size ((c .before .before .before .before .before .before .before .args) .n) ((c .before .before .before .before .before .before .before .args) .tape .now), (c .before .before .before .before .before .before .before .pre) .0, (c .before .before .before .before .before .before .before .pre) .1 .1 .1), ((c .before .before .before .before .before .before .before .pre) .1 .0, (c .before .before .before .before .before .before .before .pre) .1 .1 .0))
 
 behind-add-t13 : (t : ℕ) → behind-lts.Need-add-t13 (behind-claims t) (behind-at t) behind.Post
-behind-add-t13 t c = omega (arith, (c .before .before .before .before .before .before .transform-jsx-attribute-value) .ensures .0, part-size ((c .before .before .before .before .before .before .before .before .before .before .before .before .before .before .args) .n) ((c .before .before .before .before .before .before .before .before .before .before .before .before .before .before .args) .tape .now), (c .before .before .before .before .before .before .before .before .before .before .before .before .before .before .pre) .1 .1 .1)
+behind-add-t13 t c = omega (arith, (c .before .before .before .before .before .before .transform-jsx-attribute-value) .ensures .0, part-size ((c .before .before .before .before .before .before .before .before .before .before .before .before .before .before .args) .n) ((c .before .before .before .before .before .before .before .before .before .before .before .before .before .before .args) .tape .now), (c .before .before .before .before .before .before .before .before .before .before .before .before .before .before .pre) .1 .1 .1, c .before .before .before .before .before .before .before .before .before .before .before .before .before .before)
 
 behind-same-length : (t : ℕ) → behind-lts.Need-same-length (behind-claims t) (behind-at t) behind.Post
 behind-same-length t c = search needs

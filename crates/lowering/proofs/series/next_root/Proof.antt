@@ -35,7 +35,7 @@ returns-3 : tie.Need-returns-3
 returns-3 c =
     let a = c .before .before .before .before .args in
     let n = c .before .read-u16 in
-    (whole (a .roots .now) (a .at) (omega arith) (n .result) (n .ensures) (c .if2 .left), (omega arith, omega arith, omega arith))
+    (whole (a .roots .now) (a .at) (omega arith) (n .result) (n .ensures) (c .if2 .left), (omega arith, omega arith, omega arith, search needs))
 
 pub next-root-spec : {M : Type 1} → statement M
 next-root-spec =

@@ -12,8 +12,11 @@ use Rattle.store.proofs.module_imports.add_import.Tie as tie
 eight : (c : tie.Start) → length (c .args .store .records) ≡ 8
 eight c = sym (length-map (c .args .store .records) _) ∙ c .good .0 .1 .1 .0 .1 .0 .1
 
+cast-count : tie.Need-cast-count
+cast-count c = search needs
+
 returns : tie.Need-returns
-returns c = let a = c .before .args in sym (added-over (a .store) (a .import) (c .if1 .taken))
+returns c = let a = c .before .before .args in sym (added-over (a .store) (a .import) (c .if1 .taken))
 
 number-in-requires : tie.Need-number-in-requires
 number-in-requires c κs = search needs
@@ -23,7 +26,7 @@ cast-t9 c = search needs
 
 returns-2 : tie.Need-returns-2
 returns-2 c =
-    let s = c .before .before .before .before in
+    let s = c .before .before .before .before .before in
     let store = s .args .store in
     let n : c .before .number-in .result ≡ numberIn (things store) (s .args .import) = c .before .number-in .ensures in
     rw n (sym (added-found store (s .args .import) (omega arith) (eight s) (omega arith)))
@@ -37,23 +40,24 @@ mul-longer c = search needs
 array-set-from-longer : tie.Need-array-set-from-longer
 array-set-from-longer c = search needs
 
-add-t11 : tie.Need-add-t11
-add-t11 c = search needs
+add-t15 : tie.Need-add-t15
+add-t15 c = search needs
 
 returns-3 : tie.Need-returns-3
 returns-3 c =
-    let s = c .before .before .before .before .before in
+    let s = c .before .before .before .before .before .before in
     sym (added-made (s .args .store) (s .args .import) (omega arith) (eight s) (omega (arith, c .before .before .number-in .ensures)) (c .if3 .taken))
 
 returns-4 : tie.Need-returns-4
 returns-4 c =
-    let s = c .before .before .before .before .before in
+    let s = c .before .before .before .before .before .before in
     sym (added-full (s .args .store) (s .args .import) (omega arith) (eight s) (omega (arith, c .before .before .number-in .ensures)) (c .if3 .left))
 
 pub add-import-spec : {M : Type 1} → statement M
 add-import-spec =
     tie.close
     (tie.spec
+    cast-count
     returns
     number-in-requires
     cast-t9
@@ -61,6 +65,6 @@ add-import-spec =
     cast-binding
     mul-longer
     array-set-from-longer
-    add-t11
+    add-t15
     returns-3
     returns-4)

@@ -1,14 +1,22 @@
--- `vectors::answers::values_of` meets its contract. Assumes nothing.
+-- `vectors::answers::values_of` meets its contract. The loop's invariant: the answer so far with the values of the words left. Assumes nothing.
 use borrow.Author.Needs.{needs}
-use Prim.Native.Nat.{_≤_, _-_}
+use Prim.Native.Nat.{ℕ, _-_}
 use native.Mathlib.Omega.{arith}
+use mathlib.Core.Path.{refl, sym}
+use mathlib.Core.List.{List, map}
 use lib.ListN.{length}
-use Rattle.vectors.proofs.Comparing.{values-most}
+use Rattle.vectors.proofs.Walking.{Left, left-all, left-none, left-word}
+use Rattle.vectors.specs.declared.answers.Answer.{Answer}
+use Rattle.vectors.specs.Values.{valueOf}
+use Rattle.vectors.specs.Answers.{empty, withValues}
 use Rattle.vectors.proofs.answers.values_of.Statement.{statement}
 use Rattle.vectors.proofs.answers.values_of.Tie as tie
 
+abbrev valued : Answer → List (List ℕ) → Answer
+valued a l = withValues a (map valueOf l)
+
 abbrev Inv-loop : tie.InvT-loop
-Inv-loop s a₀ at₀ a at = (a .n ≤ 17) × (at ≤ length s)
+Inv-loop s a₀ at₀ a at = Left valued s empty at a
 
 abbrev μ-loop : tie.MeasureT-loop
 μ-loop s a₀ at₀ a at = length s - at
@@ -17,13 +25,14 @@ no-values-requires : tie.Need-no-values-requires Inv-loop μ-loop
 no-values-requires c κs = search needs
 
 loop-holds : tie.Need-loop-holds Inv-loop μ-loop
-loop-holds c = (rw (c .no-values .ensures) (omega arith), search needs)
+loop-holds c = rw (c .no-values .ensures) (left-all valued _ empty)
 
 next-word-requires : tie.Need-next-word-requires Inv-loop μ-loop
 next-word-requires c κs = search needs
 
 returns : tie.Need-returns Inv-loop μ-loop
-returns c = search needs
+unfolding withValues
+returns c = sym (left-none valued _ (c .before .before .loop .inv) (c .before .next-word .ensures .0) refl (c .if1 .taken))
 
 sub-value-of : tie.Need-sub-value-of Inv-loop μ-loop
 sub-value-of c = search needs
@@ -44,12 +53,11 @@ loop-less : tie.Need-loop-less Inv-loop μ-loop
 loop-less c = omega (arith, c .before .before .before .before .next-word .ensures .1)
 
 loop-again : tie.Need-loop-again Inv-loop μ-loop
+unfolding withValues
 loop-again c =
-    let w = c .before .before .before .before .next-word .ensures .1 in
-    (rw (c .with-value .ensures) (values-most _ _), omega (arith, w))
-
-returns-2 : tie.Need-returns-2 Inv-loop μ-loop
-returns-2 c = search needs
+    let left = c .before .before .before .before .before .loop .inv in
+    let w = c .before .before .before .before .next-word .ensures in
+    left-word valued _ left (w .0) (λ l. rw (c .with-value .ensures, c .before .value-of .ensures)) (c .before .before .before .if1 .left) (w .1)
 
 pub values-of-spec : {M : Type 1} → statement M
 values-of-spec =
@@ -67,5 +75,4 @@ values-of-spec =
     value-of-requires
     with-value-requires
     loop-less
-    loop-again
-    returns-2)
+    loop-again)

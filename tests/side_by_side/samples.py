@@ -84,7 +84,7 @@ class Tapes:
 PLUGIN, SELF, SOURCE, CLASSIC, DEVELOPMENT, THROW, PURE, MODULE = (1 << bit for bit in range(8))
 
 
-class Sheet:
+class Sample:
     def __init__(self, name, source, roots, flags=PLUGIN | MODULE, comment=None):
         tapes = Tapes(source)
         self.name, self.source, self.flags = name, source, flags
@@ -98,56 +98,56 @@ CONSTRUCTOR = """class C extends B {
   m() { x = <b />; }
 }"""
 
-SHEETS = [
-    Sheet("text lines", "x = <p>\n  one\n  two  {three}  four\n\n</p>;", lambda t: [
+SAMPLES = [
+    Sample("text lines", "x = <p>\n  one\n  two  {three}  four\n\n</p>;", lambda t: [
         t.root("<p>\n  one\n  two  {three}  four\n\n</p>", t.element("<p>", t.string("p"), b"",
             t.text("\n  one\n  two  ") + t.expression("three") + t.text("  four\n\n")))]),
-    Sheet("text with a tab, and U+00A0 at a line's end", "x = <p>one\ttwo\u00a0\n  three</p>;", lambda t: [
+    Sample("text with a tab, and U+00A0 at a line's end", "x = <p>one\ttwo\u00a0\n  three</p>;", lambda t: [
         t.root("<p>one\ttwo\u00a0\n  three</p>", t.element("<p>", t.string("p"), b"", t.text("one\ttwo\u00a0\n  three")))]),
-    Sheet("a key before a spread", 'x = <a key="1" {...p} b />;', lambda t: [
+    Sample("a key before a spread", 'x = <a key="1" {...p} b />;', lambda t: [
         t.root('<a key="1" {...p} b />', t.element("<a", t.string("a"),
             t.plain("key", t.quoted("1")) + t.spread("p") + t.plain("b", t.NONE)))]),
-    Sheet("a key after a spread, and the order of imports", 'x = <a {...p} key="1" />; y = <b c={<d />} />;', lambda t: [
+    Sample("a key after a spread, and the order of imports", 'x = <a {...p} key="1" />; y = <b c={<d />} />;', lambda t: [
         t.root('<a {...p} key="1" />', t.element("<a", t.string("a"), t.spread("p") + t.plain("key", t.quoted("1")))),
         t.root("<d />", t.element("<d", t.string("d"))),
         t.root("<b c={<d />} />", t.element("<b", t.string("b"), t.plain("c", t.expression("<d />"))))]),
-    Sheet("a key without a value", "x = <a key />;", lambda t: [
+    Sample("a key without a value", "x = <a key />;", lambda t: [
         t.root("<a key />", t.element("<a", t.string("a"), t.plain("key", t.NONE)))]),
-    Sheet("a sole spread child", "x = <a>{...b}</a>;", lambda t: [
+    Sample("a sole spread child", "x = <a>{...b}</a>;", lambda t: [
         t.root("<a>{...b}</a>", t.element("<a", t.string("a"), b"", t.spread_child("b")))]),
-    Sheet("a fragment", "x = <>{one}<a /></>;", lambda t: [
+    Sample("a fragment", "x = <>{one}<a /></>;", lambda t: [
         t.root("<>{one}<a /></>", t.fragment("<>", t.expression("one") + t.element("<a", t.string("a"))))]),
-    Sheet("a fragment in development", "x = <><a /></>;", lambda t: [
+    Sample("a fragment in development", "x = <><a /></>;", lambda t: [
         t.root("<><a /></>", t.fragment("<>", t.element("<a", t.string("a"))))], PLUGIN | MODULE | DEVELOPMENT),
-    Sheet("namespaced names", 'x = <a:b c:d="1" e-f />;', lambda t: [
+    Sample("namespaced names", 'x = <a:b c:d="1" e-f />;', lambda t: [
         t.root('<a:b c:d="1" e-f />', t.element("<a", t.namespaced("a", "b"),
             t.pair("c", "d", t.quoted("1")) + t.plain("e-f", t.NONE)))]),
-    Sheet("namespaced names, throw_if_namespace", "x = <a:b />;", lambda t: [
+    Sample("namespaced names, throw_if_namespace", "x = <a:b />;", lambda t: [
         t.root("<a:b />", t.element("<a", t.namespaced("a", "b")))], PLUGIN | MODULE | THROW),
-    Sheet("member names", "x = <a.b.c><this.d /><E /></a.b.c>;", lambda t: [
+    Sample("member names", "x = <a.b.c><this.d /><E /></a.b.c>;", lambda t: [
         t.root("<a.b.c><this.d /><E /></a.b.c>", t.element("<a", t.identifier("a", "b", "c"), b"",
             t.element("<this", t.this("d")) + t.element("<E", t.identifier("E"))))]),
-    Sheet("self and source in a derived class, automatic", CONSTRUCTOR, lambda t: [
+    Sample("self and source in a derived class, automatic", CONSTRUCTOR, lambda t: [
         t.root("<a />", t.element("<a", t.string("a")), 2, (2,)),
         t.root("<b />", t.element("<b", t.string("b")), 2, (3,))], PLUGIN | MODULE | DEVELOPMENT),
-    Sheet("self and source in a derived class, classic", CONSTRUCTOR, lambda t: [
+    Sample("self and source in a derived class, classic", CONSTRUCTOR, lambda t: [
         t.root("<a />", t.element("<a", t.string("a")), 2, (2,)),
         t.root("<b />", t.element("<b", t.string("b")), 2, (3,))], PLUGIN | MODULE | CLASSIC | SELF | SOURCE),
-    Sheet("a pragma within a line of a comment, and what is pure", "/* see @jsx h */ x = <a>b</a>;", lambda t: [
+    Sample("a pragma within a line of a comment, and what is pure", "/* see @jsx h */ x = <a>b</a>;", lambda t: [
         t.root("<a>b</a>", t.element("<a", t.string("a"), b"", t.text("b")))], PLUGIN | MODULE | CLASSIC, " see @jsx h "),
-    Sheet("an import source, and what is pure", "/* @jsxImportSource preact */ x = <a>b</a>;", lambda t: [
+    Sample("an import source, and what is pure", "/* @jsxImportSource preact */ x = <a>b</a>;", lambda t: [
         t.root("<a>b</a>", t.element("<a", t.string("a"), b"", t.text("b")))], PLUGIN | MODULE, " @jsxImportSource preact "),
-    Sheet("a lone classic spread", "x = <a {...p} />; y = <b {...{c: 1}} />; z = <d {...{}} {...{}} />;", lambda t: [
+    Sample("a lone classic spread", "x = <a {...p} />; y = <b {...{c: 1}} />; z = <d {...{}} {...{}} />;", lambda t: [
         t.root("<a {...p} />", t.element("<a", t.string("a"), t.spread("p"))),
         t.root("<b {...{c: 1}} />", t.element("<b", t.string("b"), t.literal("{c: 1}", ("c: 1", "c")))),
         t.root("<d {...{}} {...{}} />", t.element("<d", t.string("d"), t.literal("{}") + t.literal("{}")))], PLUGIN | MODULE | CLASSIC),
-    Sheet("literals that are spread, one with __proto__", "x = <a {...{b: 1}} {...{__proto__: c}} />;", lambda t: [
+    Sample("literals that are spread, one with __proto__", "x = <a {...{b: 1}} {...{__proto__: c}} />;", lambda t: [
         t.root("<a {...{b: 1}} {...{__proto__: c}} />", t.element("<a", t.string("a"),
             t.literal("{b: 1}", ("b: 1", "b")) + t.literal("{__proto__: c}", ("__proto__: c", "__proto__"))))]),
-    Sheet("a script", 'x = <><a /></>; y = <b {...p} key="1" />;', lambda t: [
+    Sample("a script", 'x = <><a /></>; y = <b {...p} key="1" />;', lambda t: [
         t.root("<><a /></>", t.fragment("<>", t.element("<a", t.string("a")))),
         t.root('<b {...p} key="1" />', t.element("<b", t.string("b"), t.spread("p") + t.plain("key", t.quoted("1"))))], PLUGIN),
-    Sheet("a script, createElement first", 'x = <a {...p} key="1" />; y = <b />;', lambda t: [
+    Sample("a script, createElement first", 'x = <a {...p} key="1" />; y = <b />;', lambda t: [
         t.root('<a {...p} key="1" />', t.element("<a", t.string("a"), t.spread("p") + t.plain("key", t.quoted("1")))),
         t.root("<b />", t.element("<b", t.string("b")))], PLUGIN),
 ]

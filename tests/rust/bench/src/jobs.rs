@@ -1,4 +1,4 @@
-//! The jobs: tapes of sheets, made from a seed.
+//! The jobs that are measured: tapes and texts, made from a seed.
 
 use oracle::measured::Job;
 
@@ -35,7 +35,8 @@ const TAGS: [&str; 8] = ["div", "span", "table", "tr", "td", "p", "b", "section"
 const NAMES: [&str; 8] =
     ["id", "className", "title", "data-unit", "value", "href", "aria-label", "style"];
 
-struct Sheet {
+/// A source in the making: its text and the tape of the root at hand.
+struct Source {
     chance: Chance,
     text: String,
     tape: Vec<u8>,
@@ -44,7 +45,7 @@ struct Sheet {
     texts: Vec<(usize, usize)>,
 }
 
-impl Sheet {
+impl Source {
     fn new(seed: u64) -> Self {
         Self {
             chance: Chance(seed),
@@ -188,16 +189,18 @@ fn job(flags: u8, text: String, roots: Vec<Vec<u8>>) -> Job {
     Job { text, opening: vec![0x61, flags, 0], roots }
 }
 
-/// A sheet of one root whose tape has about so many bytes.
+/// A source of one root whose tape has about so many bytes.
 pub fn sized(size: usize, flags: u8) -> Job {
-    let mut sheet = Sheet::new(size as u64);
-    sheet.rows(size);
-    job(flags, sheet.text, vec![sheet.tape])
+    let mut source = Source::new(size as u64);
+    source.rows(size);
+    job(flags, source.text, vec![source.tape])
 }
 
 pub struct Kind {
     pub name: &'static str,
     pub jobs: Vec<Job>,
+    /// Whether the port is handed each root by itself, over a state that is kept in between; else the whole job at once.
+    pub one_by_one: bool,
 }
 
 impl Kind {
@@ -216,53 +219,55 @@ fn each_flags(make: impl Fn(u8) -> Job) -> Vec<Job> {
 
 pub fn kinds() -> Vec<Kind> {
     let short = |seed: usize| {
-        let mut sheet = Sheet::new(seed as u64);
-        sheet.begin();
-        sheet.tree(2);
-        job(FLAGS[seed % 3], sheet.text, vec![sheet.tape])
+        let mut source = Source::new(seed as u64);
+        source.begin();
+        source.tree(2);
+        job(FLAGS[seed % 3], source.text, vec![source.tape])
     };
     let deep = |flags| {
-        let mut sheet = Sheet::new(64);
+        let mut source = Source::new(64);
         let mut roots = Vec::new();
         for _ in 0..20 {
-            sheet.begin();
+            source.begin();
             for _ in 0..64 {
-                sheet.open_element(1);
+                source.open_element(1);
             }
-            sheet.tape.extend([0x1f; 64]);
-            roots.push(std::mem::take(&mut sheet.tape));
+            source.tape.extend([0x1f; 64]);
+            roots.push(std::mem::take(&mut source.tape));
         }
-        job(flags, sheet.text, roots)
+        job(flags, source.text, roots)
     };
     let texts = |flags| {
-        let mut sheet = Sheet::new(5);
-        sheet.begin();
-        sheet.open_element(0);
+        let mut source = Source::new(5);
+        source.begin();
+        source.open_element(0);
         for _ in 0..8 {
-            sheet.words(1000);
+            source.words(1000);
         }
-        sheet.tape.push(0x1f);
-        job(flags, sheet.text, vec![sheet.tape])
+        source.tape.push(0x1f);
+        job(flags, source.text, vec![source.tape])
     };
     let many = |flags| {
-        let mut sheet = Sheet::new(6);
+        let mut source = Source::new(6);
         let mut roots = Vec::new();
-        while sheet.text.len() < 64_000 {
-            sheet.begin();
-            sheet.tree(2);
-            sheet.text.push_str("\nexport const more = () => { return table(rows, columns); };\n");
-            roots.push(std::mem::take(&mut sheet.tape));
+        while source.text.len() < 64_000 {
+            source.begin();
+            source.tree(2);
+            source.text.push_str("\nexport const more = () => { return table(rows, columns); };\n");
+            roots.push(std::mem::take(&mut source.tape));
         }
-        job(flags, sheet.text, roots)
+        job(flags, source.text, roots)
     };
+    let kind = |name, jobs| Kind { name, jobs, one_by_one: false };
     vec![
-        Kind { name: "short sheets", jobs: (0..60).map(short).collect() },
-        Kind { name: "long sheets", jobs: each_flags(|flags| sized(60_000, flags)) },
-        Kind { name: "deep nesting", jobs: each_flags(deep) },
-        Kind { name: "long texts", jobs: each_flags(texts) },
-        Kind { name: "many roots, long text", jobs: each_flags(many) },
-        Kind { name: "4 KiB", jobs: each_flags(|flags| sized(4 << 10, flags)) },
-        Kind { name: "16 KiB", jobs: each_flags(|flags| sized(16 << 10, flags)) },
-        Kind { name: "64 KiB", jobs: each_flags(|flags| sized((64 << 10) - 1, flags)) },
+        kind("short sheets", (0..60).map(short).collect()),
+        kind("long sheets", each_flags(|flags| sized(60_000, flags))),
+        kind("deep nesting", each_flags(deep)),
+        kind("long texts", each_flags(texts)),
+        kind("many roots, long text", each_flags(many)),
+        Kind { one_by_one: true, ..kind("many roots, one by one", each_flags(many)) },
+        kind("4 KiB", each_flags(|flags| sized(4 << 10, flags))),
+        kind("16 KiB", each_flags(|flags| sized(16 << 10, flags))),
+        kind("64 KiB", each_flags(|flags| sized((64 << 10) - 1, flags))),
     ]
 }

@@ -1,5 +1,5 @@
 #!/usr/bin/env python3
-"""The specification's "Sheets to try" as cases with what must come out: python3 sheets.py FILE, then python3 sheets.py --check ANSWERS..
+"""The specification's "Sheets to try" as cases with what must come out: python3 examples.py FILE, then python3 examples.py --check ANSWERS..
 
 The first writes the cases, the second looks through what oracle (with --plain-fragments) and other programs printed for them.
 """
@@ -19,7 +19,7 @@ def nested(depth):
 
 
 # name, job, text, root, and lines that the answer must have
-SHEETS = [
+EXAMPLES = [
     ("the whole example", "61 e1 00", b"a", ROOT + A + "1e 1f",
      [f"calls 80 01 81 82 {TAIL} 96 00 a0 01", "notices", "records b0 01 b1 02 00"]),
     ("text of 3 spaces: kept", "61 81 00", b"a   ", ROOT + A + "1e 50 0100 0300 1f",
@@ -60,20 +60,20 @@ SHEETS = [
 def main():
     if sys.argv[1] != "--check":
         with open(sys.argv[1], "wb") as file:
-            for _, job, text, root, _ in SHEETS:
+            for _, job, text, root, _ in EXAMPLES:
                 file.write(pack(bytes.fromhex(job), text, [bytes.fromhex(root)] if root else []))
         return
     wrong = 0
     for file in sys.argv[2:]:
         with open(file) as answers:
             wrong += check([answer.split("\n")[1:] for answer in answers.read().split("case ")[1:]])
-    print(f"{len(SHEETS)} sheets, {wrong} wrong lines")
+    print(f"{len(EXAMPLES)} examples, {wrong} wrong lines")
     sys.exit(1 if wrong else 0)
 
 
 def check(answers):
     wrong = 0
-    for (name, _, _, _, expected), answer in zip(SHEETS, answers, strict=True):
+    for (name, _, _, _, expected), answer in zip(EXAMPLES, answers, strict=True):
         for line in expected:
             if not (any(line in each for each in answer) if line[0] == " " else any(
                     each == line or line.endswith("refused") and each.startswith(line) for each in answer)):

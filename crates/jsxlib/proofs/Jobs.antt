@@ -1,0 +1,103 @@
+-- A whole job (specs, `jobOver`) by what its three parts come to.
+--     opening-refused, root-refused, job-done     how far it came
+--     job-is                                      the parts of that
+-- Assumes nothing.
+use mathlib.Core.Path.{_≡_, sym, ap, _∙_}
+use mathlib.Core.List.{List}
+use Prim.Native.Nat.{ℕ}
+use lib.ListN.{length}
+use Rattle.tape.specs.declared.refusal.Refusal.{Refusal}
+use Rattle.tape.specs.Refusals.{numberOf, figureOf}
+use Rattle.definitions.specs.declared.state.State.{State}
+use Rattle.definitions.specs.declared.state.Answer.{Answer}
+use Rattle.definitions.specs.declared.state.Answer.the-variants.{Accepted, Refused}
+use Rattle.definitions.specs.declared.state.Stepped.{Stepped}
+use Rattle.definitions.specs.Entries.{opened, judgeRecords, recordsAnswer, recordsTarget}
+use Rattle.definitions.specs.Series.{World}
+use Rattle.lowering.specs.RootLists.{Run, run}
+use Rattle.jsxlib.specs.Entries.{numberBy, figureBy, recordsNumber, recordsFigure, JobRun, jobRecords, jobRoots, jobBy, jobOver}
+
+abbrev pub begun : State → List ℕ → List ℕ → World
+begun s calls notices = record { state = s; calls = calls; notices = notices }
+
+-- the number and the figure of a refusal
+told-number : {a : Answer} {x : Refusal} {n : ℕ} → a ≡ Refused x → n ≡ numberBy a → numberOf x ≡ n
+unfolding numberBy
+told-number h e = sym (e ∙ ap numberBy h)
+
+told-figure : {a : Answer} {x : Refusal} {n : ℕ} → a ≡ Refused x → n ≡ figureBy 0 a → figureOf x ≡ n
+unfolding figureBy
+told-figure h e = sym (e ∙ ap (figureBy 0) h)
+
+module _ (text job roots calls notices records : List ℕ) (t : Stepped) (told : t ≡ opened text job) where
+  opens : jobOver text job roots calls notices records ≡ jobBy text (t .answer) (begun (t .state) calls notices) roots records
+  opens = ap (λ (o : Stepped). jobBy text (o .answer) (begun (o .state) calls notices) roots records) (sym told)
+
+  pub opening-refused : {x : Refusal} {n f : ℕ} → t .answer ≡ Refused x → n ≡ numberBy (t .answer) → f ≡ figureBy 0 (t .answer)
+      → jobOver text job roots calls notices records
+      ≡ record { stage = 0; number = n; figure = f; taken = 0; world = begun (t .state) calls notices; records = records }
+  unfolding jobBy
+  opening-refused h n f =
+      opens ∙ ap (λ (a : Answer). jobBy text a (begun (t .state) calls notices) roots records) h
+      ∙ λ ι. record { stage = 0; number = told-number h n ι; figure = told-figure h f ι; taken = 0; world = begun (t .state) calls notices; records = records }
+
+  module _ (accepts : t .answer ≡ Accepted) {a : Answer} {k : ℕ} {w : World}
+      (answers : a ≡ run text (begun (t .state) calls notices) roots .answer)
+      (takes : k ≡ run text (begun (t .state) calls notices) roots .taken)
+      (leaves : w ≡ run text (begun (t .state) calls notices) roots .world) where
+    runs : jobOver text job roots calls notices records ≡ jobRoots text a k w records
+    unfolding jobBy
+    runs =
+        opens ∙ ap (λ (b : Answer). jobBy text b (begun (t .state) calls notices) roots records) accepts
+        ∙ λ ι. jobRoots text (sym answers ι) (sym takes ι) (sym leaves ι) records
+
+    pub root-refused : {x : Refusal} {n f : ℕ} → a ≡ Refused x → n ≡ numberBy a → f ≡ figureBy 0 a
+        → jobOver text job roots calls notices records ≡ record { stage = 1; number = n; figure = f; taken = k; world = w; records = records }
+    unfolding jobRoots
+    root-refused h n f =
+        runs ∙ ap (λ (b : Answer). jobRoots text b k w records) h
+        ∙ λ ι. record { stage = 1; number = told-number h n ι; figure = told-figure h f ι; taken = k; world = w; records = records }
+
+    pub job-done : {n f : ℕ} {rs : List ℕ} → a ≡ Accepted
+        → n ≡ recordsNumber (recordsAnswer (judgeRecords text (w .state) (length records)))
+        → f ≡ recordsFigure (recordsAnswer (judgeRecords text (w .state) (length records)))
+        → rs ≡ recordsTarget records (judgeRecords text (w .state) (length records))
+        → jobOver text job roots calls notices records ≡ record { stage = 2; number = n; figure = f; taken = k; world = w; records = rs }
+    unfolding jobRoots jobRecords
+    job-done h n f r =
+        runs ∙ ap (λ (b : Answer). jobRoots text b k w records) h
+        ∙ λ ι. record { stage = 2; number = sym n ι; figure = sym f ι; taken = k; world = w; records = sym r ι }
+
+pub job-is : {j o : JobRun} → j ≡ o
+    → (o .number ≡ j .number)
+    × ((o .stage ≡ j .stage)
+    × ((o .taken ≡ j .taken)
+    × ((o .world .state .calls ≡ j .world .state .calls)
+    × ((o .world .state .notices ≡ j .world .state .notices)
+    × ((o .figure ≡ j .figure)
+    × ((o .world .calls ≡ j .world .calls)
+    × ((o .world .notices ≡ j .world .notices)
+    × (o .records ≡ j .records))))))))
+job-is e =
+    let r = sym e in (
+      ap (λ (j : JobRun). j .number) r,
+      (
+        ap (λ (j : JobRun). j .stage) r,
+        (
+          ap (λ (j : JobRun). j .taken) r,
+          (
+            ap (λ (j : JobRun). j .world .state .calls) r,
+            (
+              ap (λ (j : JobRun). j .world .state .notices) r,
+              (
+                ap (λ (j : JobRun). j .figure) r,
+                (
+                  ap (λ (j : JobRun). j .world .calls) r,
+                  (ap (λ (j : JobRun). j .world .notices) r, ap (λ (j : JobRun). j .records) r),
+                ),
+              ),
+            ),
+          ),
+        ),
+      ),
+    )

@@ -1,0 +1,102 @@
+-- A whole job: laws of proofs/Jobs, by what each of its parts answered.
+use denote.Ref.{now}
+use borrow.Author.Needs.{needs}
+use Rattle.jsxlib.proofs.Jobs.{opening-refused, root-refused, job-done, job-is}
+use Rattle.jsxlib.proofs.jsx_job.Statement.{statement}
+use Rattle.jsxlib.proofs.jsx_job.Tie as tie
+
+open-job-requires : tie.Need-open-job-requires
+open-job-requires c κs = search needs
+
+enum-told : tie.Need-enum-told
+enum-told c = search needs
+
+figure-by-requires : tie.Need-figure-by-requires
+figure-by-requires c κs = search needs
+
+number-by-requires : tie.Need-number-by-requires
+number-by-requires c κs = search needs
+
+enum-told-2 : tie.Need-enum-told-2
+enum-told-2 c = search needs
+
+lower-list-requires : tie.Need-lower-list-requires
+lower-list-requires c κs = search needs
+
+enum-told-3 : tie.Need-enum-told-3
+enum-told-3 c = search needs
+
+figure-by-requires-2 : tie.Need-figure-by-requires-2
+figure-by-requires-2 c κs = search needs
+
+number-by-requires-2 : tie.Need-number-by-requires-2
+number-by-requires-2 c κs = search needs
+
+enum-told-4 : tie.Need-enum-told-4
+enum-told-4 c = search needs
+
+tell-records-requires : tie.Need-tell-records-requires
+tell-records-requires c κs = search needs
+
+returns : tie.Need-returns
+returns c =
+    let a = (c .before .before .before .before .before .before .before .before .before .before .before .before .args) in
+    job-is
+    (opening-refused (now (a .text)) (now (a .job)) (now (a .roots)) (now (a .calls)) (now (a .notices)) (now (a .records)) _ ((c .before .before .before .before .before .open-job) .ensures) ((c .before .before .enum-told) .given .1)
+    ((c .number-by) .ensures) ((c .before .figure-by) .ensures))
+
+same-length : tie.Need-same-length
+same-length c = search needs
+
+same-length-2 : tie.Need-same-length-2
+same-length-2 c = search needs
+
+returns-2 : tie.Need-returns-2
+returns-2 c =
+    let a = (c .before .before .before .before .before .before .before .before .before .before .before .before .before .before .before .before .before .before .before .before .before .before .args) in
+    let l = (c .before .before .before .before .before .before .before .before .before .lower-list) .ensures in
+    job-is
+    (root-refused (now (a .text)) (now (a .job)) (now (a .roots)) (now (a .calls)) (now (a .notices)) (now (a .records)) _ ((c .before .before .before .before .before .before .before .before .before .before .before .before .before .before .before .open-job) .ensures) ((c .before .before .before .before .before .before .before .before .before .before .before .before .enum-told2) .given .1)
+    (l .0) (l .1 .0) (l .1 .1 .0) ((c .before .before .enum-told3) .given .1) ((c .number-by2) .ensures) ((c .before .figure-by2) .ensures))
+
+same-length-3 : tie.Need-same-length-3
+same-length-3 c = search needs
+
+same-length-4 : tie.Need-same-length-4
+same-length-4 c = search needs
+
+same-length-5 : tie.Need-same-length-5
+same-length-5 c = search needs
+
+returns-3 : tie.Need-returns-3
+returns-3 c =
+    let a = (c .before .before .before .before .before .before .before .before .before .before .before .before .before .before .before .before .before .before .before .before .before .before .before .before .before .args) in
+    let l = (c .before .before .before .before .before .before .before .before .before .before .before .before .lower-list) .ensures in
+    let t = (c .before .before .tell-records) .ensures in
+    job-is
+    (job-done (now (a .text)) (now (a .job)) (now (a .roots)) (now (a .calls)) (now (a .notices)) (now (a .records)) _ ((c .before .before .before .before .before .before .before .before .before .before .before .before .before .before .before .before .before .before .open-job) .ensures) ((c .before .before .before .before .before .before .before .before .before .before .before .before .before .before .before .enum-told2) .given .1)
+    (l .0) (l .1 .0) (l .1 .1 .0) ((c .before .before .before .before .before .enum-told4) .given .1) (t .0) (t .1 .0) (t .1 .1))
+
+pub jsx-job-spec : {M : Type 1} → statement M
+jsx-job-spec =
+    tie.close
+    (tie.spec
+    open-job-requires
+    enum-told
+    figure-by-requires
+    number-by-requires
+    enum-told-2
+    lower-list-requires
+    enum-told-3
+    figure-by-requires-2
+    number-by-requires-2
+    enum-told-4
+    tell-records-requires
+    returns
+    same-length
+    same-length-2
+    returns-2
+    same-length-3
+    same-length-4
+    same-length-5
+    returns-3)
