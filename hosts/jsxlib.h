@@ -54,9 +54,9 @@ uint8_t jsx_records(const uint8_t *text, size_t text_len, const uint8_t *state, 
                     size_t *figure);
 
 /* A whole job at once: its opening, the roots of a list (as for jsx_roots) and its records, with no state in between. `calls` and `notices` are filled from their
- * fronts as far as `call_fill` and `notice_fill` say. On 0 the figure is the length of the record tape at the front of `records`. A refusal ends the job:
- * `stage` is 0 where the opening is refused, 1 where it is the root with the index `taken`, 2 where the records have no room; the roots before it
- * have been lowered, and the records are not written. */
+ * fronts as far as `call_fill` and `notice_fill` say. On 0 `stage` is 2, and the figure is the length of the record tape at the front of `records`. A refusal
+ * ends the job: `stage` is 0 where it is that of the opening, 1 where it is that of the root with the index `taken` or of a list that is cut short behind so
+ * many, 2 where the records have no room. The roots before it have been lowered, and the records are not written. */
 uint8_t jsx_job(const uint8_t *text, size_t text_len, const uint8_t *job, size_t job_len, const uint8_t *roots, size_t roots_len, uint8_t *calls,
                 size_t calls_len, uint8_t *notices, size_t notices_len, uint8_t *records, size_t records_len, size_t *stage, size_t *taken,
                 size_t *call_fill, size_t *notice_fill, size_t *figure);

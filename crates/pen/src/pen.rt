@@ -14,6 +14,7 @@ use store::module_imports::add_import;
 use tape::target;
 use text::spans::Span;
 
+// Every command moves the place in the call target; it stands last, so that a copy of the rest does not wait for it.
 pub struct Pen {
     pub store: Store,
     pub full: bool,
