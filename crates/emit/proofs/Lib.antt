@@ -1,3 +1,5 @@
+pub mod Bits
+pub mod Outlines
 pub mod Readings
 pub mod Members
 pub mod Names

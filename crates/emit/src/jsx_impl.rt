@@ -13,6 +13,11 @@ ghost use Rattle.definitions.specs.Calls as call;
 ghost use Rattle.definitions.specs.Store.{sourceOf};
 ghost use Rattle.definitions.specs.Lowering.{Context, put, putByte, members, lowerName, imported, calleeNamed, fragmentTag, attributeName, hasProto, carried, lowerLiteral, pureByte, automaticName, staticChildren, noKey};
 ghost use Rattle.pen.specs.Emitting.{Called, Produced};
+ghost use Rattle.emit.specs.Brief.{settingsIn};
+use crate::brief::is_development;
+use crate::brief::is_pure;
+use crate::brief::mode_of;
+use crate::brief::throws_if_namespace;
 use commands::root::MemberCommand;
 use commands::root::NameCommand;
 use commands::root::PropertyCommand;
@@ -20,7 +25,6 @@ use commands::root::member_command_at;
 use commands::root::name_command_at;
 use commands::root::property_command_at;
 use definitions::options::Mode;
-use definitions::options::Settings;
 use definitions::records::Import;
 use pen::diagnostics::namespace_does_not_support;
 use pen::pen::Pen;
@@ -62,13 +66,13 @@ fn transform_jsx_member_expression(tape: &[u8], calls: &mut [u8], pen: Pen) -> P
 
 // The tag of an element, whose name stands at the front of `tape`. Of a tape that does not read nothing is promised.
 pub fn transform_element_name(
-    settings: Settings,
+    brief: u8,
     tape: &[u8],
     calls: &mut [u8],
     notices: &mut [u8],
     pen: Pen,
 ) -> Pen
-    ensures { λ r. ⌜ ((c : Context) → c .settings ≡ settings → (text : List ℕ) (f : ℕ) (n : Name) (u : ℕ) → length (now (tape .entry)) < f → nameAt f text (now (tape .entry)) ≡ done n u → Produced (lowerName c n) (now (calls .entry)) (now (calls .exit)) (now (notices .entry)) (now (notices .exit)) pen r) ⌝ }
+    ensures { λ r. ⌜ ((c : Context) → c .settings ≡ settingsIn brief → (text : List ℕ) (f : ℕ) (n : Name) (u : ℕ) → length (now (tape .entry)) < f → nameAt f text (now (tape .entry)) ≡ done n u → Produced (lowerName c n) (now (calls .entry)) (now (calls .exit)) (now (notices .entry)) (now (notices .exit)) pen r) ⌝ }
 {
     let command = name_command_at(tape);
     match command {
@@ -82,7 +86,7 @@ pub fn transform_element_name(
             transform_jsx_member_expression(&tape[1..], calls, object)
         }
         NameCommand::Namespaced(namespace, name) => {
-            if settings.options.flags.throw_if_namespace {
+            if throws_if_namespace(brief) {
                 let told = namespace_does_not_support(notices, pen, namespace, name);
                 return put_namespaced(calls, told, namespace, name);
             }
@@ -239,10 +243,10 @@ pub fn get_fragment(mode: Mode, calls: &mut [u8], pen: Pen) -> Pen
 }
 
 // The name of an automatic call's callee: jsxDEV in development, jsxs for two children or more, else jsx.
-pub fn automatic_name(settings: Settings, count: usize) -> u8
-    ensures { λ r. ⌜ ((c : Context) → c .settings ≡ settings → r ≡ automaticName c count) ⌝ }
+pub fn automatic_name(brief: u8, count: usize) -> u8
+    ensures { λ r. ⌜ ((c : Context) → c .settings ≡ settingsIn brief → r ≡ automaticName c count) ⌝ }
 {
-    if settings.options.flags.development {
+    if is_development(brief) {
         return 4;
     }
     if 2 <= count { 3 } else { 2 }
@@ -255,20 +259,19 @@ fn pure_byte(pure: bool) -> u8
 }
 
 // The end of a call, behind its tag: the callee, and whether the call is pure.
-pub fn closing(settings: Settings, calls: &mut [u8], pen: Pen, name: u8) -> Pen
-    ensures { λ r. ⌜ Called (put call.callee ++ calleeNamed (settings .mode) name ++ putByte call.callEnd (pureByte (settings .pure))) (now (calls .entry)) (now (calls .exit)) pen r ⌝ }
+pub fn closing(brief: u8, calls: &mut [u8], pen: Pen, name: u8) -> Pen
+    ensures { λ r. ⌜ Called (put call.callee ++ calleeNamed (settingsIn brief .mode) name ++ putByte call.callEnd (pureByte (settingsIn brief .pure))) (now (calls .entry)) (now (calls .exit)) pen r ⌝ }
 {
     let begun = put_bare(calls, pen, 0x9f);
-    let mode = settings.mode;
-    let called = get_create_element(mode, name, calls, begun);
-    put_byte(calls, called, 0xa0, pure_byte(settings.pure))
+    let called = get_create_element(mode_of(brief), name, calls, begun);
+    put_byte(calls, called, 0xa0, pure_byte(is_pure(brief)))
 }
 
 // Whether the children are static, in development.
-pub fn static_children(settings: Settings, calls: &mut [u8], pen: Pen, count: usize) -> Pen
-    ensures { λ r. ⌜ ((c : Context) → c .settings ≡ settings → Called (staticChildren c count) (now (calls .entry)) (now (calls .exit)) pen r) ⌝ }
+pub fn static_children(brief: u8, calls: &mut [u8], pen: Pen, count: usize) -> Pen
+    ensures { λ r. ⌜ ((c : Context) → c .settings ≡ settingsIn brief → Called (staticChildren c count) (now (calls .entry)) (now (calls .exit)) pen r) ⌝ }
 {
-    if !settings.options.flags.development {
+    if !is_development(brief) {
         return pen;
     }
     if 2 <= count {
@@ -278,10 +281,10 @@ pub fn static_children(settings: Settings, calls: &mut [u8], pen: Pen, count: us
 }
 
 // What stands for a key that is not there, in development.
-pub fn no_key(settings: Settings, calls: &mut [u8], pen: Pen) -> Pen
-    ensures { λ r. ⌜ ((c : Context) → c .settings ≡ settings → Called (noKey c) (now (calls .entry)) (now (calls .exit)) pen r) ⌝ }
+pub fn no_key(brief: u8, calls: &mut [u8], pen: Pen) -> Pen
+    ensures { λ r. ⌜ ((c : Context) → c .settings ≡ settingsIn brief → Called (noKey c) (now (calls .entry)) (now (calls .exit)) pen r) ⌝ }
 {
-    if !settings.options.flags.development {
+    if !is_development(brief) {
         return pen;
     }
     put_bare(calls, pen, 0x92)

@@ -9,12 +9,13 @@ ghost use Rattle.definitions.specs.Tree.{Root};
 ghost use Rattle.definitions.specs.Reading.{Scoped, scopesAt, readRoot};
 ghost use Rattle.definitions.specs.Lowering.{Context, selfOutput, noSuperClass};
 ghost use Rattle.pen.specs.Emitting.{Called};
+ghost use Rattle.emit.specs.Brief.{settingsIn};
 ghost use Rattle.emit.specs.Heads.{ScopesOf, HeadOf};
+use crate::brief::has_self_plugin;
 use commands::root::HeritageCommand;
 use commands::root::ScopeCommand;
 use commands::root::heritage_command_at;
 use commands::root::scope_command_at;
-use definitions::options::Settings;
 use pen::pen::Pen;
 use pen::pen::put_bare;
 
@@ -109,10 +110,10 @@ pub fn root_head(tape: &[u8]) -> Head
 }
 
 // `this`, if the plugin is on and `this` can be used where the element stands.
-pub fn self_output(settings: Settings, allowed: bool, calls: &mut [u8], pen: Pen) -> Pen
-    ensures { λ r. ⌜ ((c : Context) → c .settings ≡ settings → c .selfAllowed ≡ allowed → Called (selfOutput c) (now (calls .entry)) (now (calls .exit)) pen r) ⌝ }
+pub fn self_output(brief: u8, allowed: bool, calls: &mut [u8], pen: Pen) -> Pen
+    ensures { λ r. ⌜ ((c : Context) → c .settings ≡ settingsIn brief → c .selfAllowed ≡ allowed → Called (selfOutput c) (now (calls .entry)) (now (calls .exit)) pen r) ⌝ }
 {
-    if !settings.options.flags.self_plugin {
+    if !has_self_plugin(brief) {
         return pen;
     }
     if !allowed {

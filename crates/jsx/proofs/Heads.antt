@@ -14,10 +14,12 @@ use Rattle.definitions.specs.declared.options.Settings.{Settings}
 use Rattle.definitions.specs.Judging.{done}
 use Rattle.definitions.specs.Tree.{Node, Root}
 use Rattle.definitions.specs.Reading.{opened, elementAt, fragmentAt}
-use Rattle.definitions.specs.Lowering.{Context, lowerNode, lowerRoot}
+use Rattle.definitions.specs.Lowering.{Context, Output, lowerNode, lowerRoot}
 use Rattle.pen.specs.declared.pen.Pen.{Pen}
 use Rattle.emit.specs.declared.jsx_self.Head.{Head}
 use Rattle.pen.specs.Emitting.{Produced}
+use Rattle.emit.specs.Brief.{settingsIn, outline}
+use Rattle.emit.proofs.Outlines.{outlined-node}
 use Rattle.emit.specs.Heads.{NodeAt, element-at, fragment-at, HeadOf}
 use Rattle.jsx.specs.Parts.{context}
 use Rattle.parts.proofs.Inversions.{opened-done}
@@ -60,10 +62,14 @@ no-node text t n x bad e (fragment-at q f u h i o) = let z : _≡_ {A = ℕ} 0 1
 
 -- ---- the root
 
-pub root-lowered : (text t part : List ℕ) (s : Settings) (o : Root) (r : Head) {cs cs′ ns ns′ : List ℕ} {p p′ : Pen} → part ≡ drop (r .used) t → HeadOf text t o r
-    → ((n : Node) → NodeAt text part n → Produced (lowerNode (context text s (r .allowed)) n) cs cs′ ns ns′ p p′)
+pub root-lowered : (text t part : List ℕ) (s : Settings) (brief : ℕ) (o : Root) (r : Head) {cs cs′ ns ns′ : List ℕ} {p p′ : Pen} → settingsIn brief ≡ outline s
+    → part ≡ drop (r .used) t → HeadOf text t o r
+    → ((n : Node) → NodeAt text part n → Produced (lowerNode (context text brief (r .allowed)) n) cs cs′ ns ns′ p p′)
     → Produced (lowerRoot text s o) cs cs′ ns ns′ p p′
 unfolding lowerRoot
-root-lowered text t part s o r {cs} {cs′} {ns} {ns′} {p} {p′} here H w =
-    subst (λ (b : Bool). Produced (lowerNode (context text s b) (o .node)) cs cs′ ns ns′ p p′) (H .allowed)
-    (w (o .node) (subst (λ (l : List ℕ). NodeAt text l (o .node)) (sym here) (H .node)))
+root-lowered text t part s brief o r {cs} {cs′} {ns} {ns′} {p} {p′} same here H w =
+    let told : lowerNode (context text brief (r .allowed)) (o .node) ≡ lowerNode (record { text = text; settings = s; selfAllowed = r .allowed }) (o .node) =
+    ap (λ (x : Settings). lowerNode (record { text = text; settings = x; selfAllowed = r .allowed }) (o .node)) same ∙ outlined-node text s (r .allowed) (o .node) in
+    subst (λ (b : Bool). Produced (lowerNode (record { text = text; settings = s; selfAllowed = b }) (o .node)) cs cs′ ns ns′ p p′) (H .allowed)
+    (subst (λ (os : List Output). Produced os cs cs′ ns ns′ p p′) told
+    (w (o .node) (subst (λ (l : List ℕ). NodeAt text l (o .node)) (sym here) (H .node))))

@@ -5,7 +5,6 @@ use mathlib.Core.List.{List, [], _++_}
 use Prim.Native.Nat.{ℕ, suc, _+_, _≤_, _<_}
 use lib.ListN.{length, drop}
 use Rattle.commands.specs.declared.root.Place.{Place}
-use Rattle.definitions.specs.declared.options.Settings.{Settings}
 use Rattle.definitions.specs.Calls as call
 use Rattle.definitions.specs.Judging.{Parsed, done}
 use Rattle.definitions.specs.Tree.{Name, Attributes, Value, Children}
@@ -13,13 +12,14 @@ use Rattle.definitions.specs.Reading.{nameAt, attributesAt, valueAt, childrenAt
 use Rattle.definitions.specs.Lowering.{Context, Output, put, formOf, childrenProperty, selfOutput, sourceOutput, noKey, classicCall, automaticCall, objectOf, fragmentTag, lowerName, survivors, hasSpread, lowerAttributes, lowerKey, lowerValue, lowerChildren, loneSpreadOr}
 use Rattle.pen.specs.declared.pen.Pen.{Pen}
 use Rattle.pen.specs.Emitting.{Produced}
+use Rattle.emit.specs.Brief.{settingsIn}
 use Rattle.parts.specs.declared.jsx_impl.Items.{Items}
 use Rattle.parts.specs.declared.jsx_impl.Props.{Props}
 use Rattle.parts.specs.Promises.{someOutput}
 
 -- what lowering sees beside the tree, from the code's parameters
-abbrev pub context : List ℕ → Settings → Bool → Context
-context text s allowed = record { text = text; settings = s; selfAllowed = allowed }
+abbrev pub context : List ℕ → ℕ → Bool → Context
+context text brief allowed = record { text = text; settings = settingsIn brief; selfAllowed = allowed }
 
 -- the output os is written, and u bytes of the tape are passed
 pub record Written (os : List Output) (u : ℕ) (cs cs′ ns ns′ : List ℕ) (p p′ : Pen) (used : ℕ) : Type 0 where

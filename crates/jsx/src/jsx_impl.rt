@@ -24,6 +24,8 @@ use commands::root::child_command_at;
 use commands::root::scope_command_at;
 use commands::root::value_command_at;
 use definitions::options::Settings;
+use emit::brief::brief;
+use emit::brief::mode_of;
 use emit::jsx_impl::automatic_name;
 use emit::jsx_impl::closing;
 use emit::jsx_impl::get_attribute_name;
@@ -71,7 +73,7 @@ pub struct Lowered {
 // A value of an attribute.
 fn transform_jsx_attribute_value(
     text: &[u8],
-    settings: Settings,
+    brief: u8,
     allowed: bool,
     tape: &[u8],
     calls: &mut [u8],
@@ -82,7 +84,7 @@ fn transform_jsx_attribute_value(
     requires { ⌜ firstIll (now text) ≡ Nothing ⌝ }
     ensures { λ r. ⌜ r .used ≤ length (now (tape .entry)) ⌝ }
     ensures { λ r. ⌜ ((f d : ℕ) (v : Value) (u : ℕ) → length (now (tape .entry)) < f → valueAt f (now (text .entry)) d (now (tape .entry)) ≡ done v u →
-        Written (lowerValue (context (now (text .entry)) settings allowed) v) u (now (calls .entry)) (now (calls .exit)) (now (notices .entry)) (now (notices .exit)) pen (r .pen) (r .used)) ⌝ }
+        Written (lowerValue (context (now (text .entry)) brief allowed) v) u (now (calls .entry)) (now (calls .exit)) (now (notices .entry)) (now (notices .exit)) pen (r .pen) (r .used)) ⌝ }
 {
     let command = value_command_at(tape);
     match command {
@@ -103,16 +105,7 @@ fn transform_jsx_attribute_value(
             Lowered { pen: end, used: 1 }
         }
         ValueCommand::Element(place) => {
-            let node = transform_jsx(
-                text,
-                settings,
-                allowed,
-                &tape[9..],
-                place,
-                calls,
-                notices,
-                pen,
-            );
+            let node = transform_jsx(text, brief, allowed, &tape[9..], place, calls, notices, pen);
             let end = node.pen;
             Lowered {
                 pen: end,
@@ -120,7 +113,7 @@ fn transform_jsx_attribute_value(
             }
         }
         ValueCommand::Fragment(_) => {
-            let node = fragment(text, settings, allowed, &tape[9..], calls, notices, pen);
+            let node = fragment(text, brief, allowed, &tape[9..], calls, notices, pen);
             let end = node.pen;
             Lowered {
                 pen: end,
@@ -135,7 +128,7 @@ fn transform_jsx_attribute_value(
 // An attribute whose name is written: its value, behind n bytes.
 fn behind(
     text: &[u8],
-    settings: Settings,
+    brief: u8,
     allowed: bool,
     tape: &[u8],
     n: usize,
@@ -149,11 +142,11 @@ fn behind(
     requires { ⌜ (1 ≤ n) × (n ≤ length (now tape)) ⌝ }
     ensures { λ r. ⌜ (r .key ≡ key) × (r .some ≡ true) × (r .last ≡ false) × (n ≤ r .used) × (r .used ≤ length (now (tape .entry))) ⌝ }
     ensures { λ r. ⌜ ((f d : ℕ) (v : Value) (u : ℕ) → length (now (tape .entry)) ≤ f → valueAt f (now (text .entry)) d (drop n (now (tape .entry))) ≡ done v u →
-        Written (lowerValue (context (now (text .entry)) settings allowed) v) (n + u) (now (calls .entry)) (now (calls .exit)) (now (notices .entry)) (now (notices .exit)) pen (r .pen) (r .used)) ⌝ }
+        Written (lowerValue (context (now (text .entry)) brief allowed) v) (n + u) (now (calls .entry)) (now (calls .exit)) (now (notices .entry)) (now (notices .exit)) pen (r .pen) (r .used)) ⌝ }
 {
     let value = transform_jsx_attribute_value(
         text,
-        settings,
+        brief,
         allowed,
         &tape[n..],
         calls,
@@ -173,7 +166,7 @@ fn behind(
 // A plain attribute that becomes a property.
 fn plain(
     text: &[u8],
-    settings: Settings,
+    brief: u8,
     allowed: bool,
     tape: &[u8],
     span: Span,
@@ -187,18 +180,18 @@ fn plain(
     requires { ⌜ 5 ≤ length (now tape) ⌝ }
     ensures { λ r. ⌜ (r .key ≡ key) × (r .some ≡ true) × (r .last ≡ false) × (5 ≤ r .used) × (r .used ≤ length (now (tape .entry))) ⌝ }
     ensures { λ r. ⌜ ((f d : ℕ) (v : Value) (u : ℕ) → length (now (tape .entry)) ≤ f → valueAt f (now (text .entry)) d (drop 5 (now (tape .entry))) ≡ done v u →
-        Written (keyNotice (context (now (text .entry)) settings allowed) span v ++ attributeName (context (now (text .entry)) settings allowed) span ++ lowerValue (context (now (text .entry)) settings allowed) v)
+        Written (keyNotice (context (now (text .entry)) brief allowed) span v ++ attributeName (context (now (text .entry)) brief allowed) span ++ lowerValue (context (now (text .entry)) brief allowed) v)
         (5 + u) (now (calls .entry)) (now (calls .exit)) (now (notices .entry)) (now (notices .exit)) pen (r .pen) (r .used)) ⌝ }
 {
     let told = key_notice(text, span, &tape[5..], notices, pen);
     let named = get_attribute_name(text, calls, told, span);
-    behind(text, settings, allowed, tape, 5, calls, notices, named, key)
+    behind(text, brief, allowed, tape, 5, calls, notices, named, key)
 }
 
 // The attribute at the front. In an automatic call a key with a value is no property: its place is told.
 fn attribute(
     text: &[u8],
-    settings: Settings,
+    brief: u8,
     allowed: bool,
     classic: bool,
     tape: &[u8],
@@ -210,23 +203,23 @@ fn attribute(
     requires { ⌜ firstIll (now text) ≡ Nothing ⌝ }
     ensures { λ r. ⌜ Moves (length (now (tape .entry))) (r .used) (r .last) × (r .key ≤ r .used) ⌝ }
     ensures { λ r. ⌜ ((f d : ℕ) (a : Attributes) (u : ℕ) → length (now (tape .entry)) < f → attributesAt f (now (text .entry)) d (now (tape .entry)) ≡ done a u →
-        AttributeStep (context (now (text .entry)) settings allowed) classic d (now (tape .entry)) (now (calls .entry)) (now (calls .exit)) (now (notices .entry)) (now (notices .exit)) pen r f a u) ⌝ }
+        AttributeStep (context (now (text .entry)) brief allowed) classic d (now (tape .entry)) (now (calls .entry)) (now (calls .exit)) (now (notices .entry)) (now (notices .exit)) pen r f a u) ⌝ }
 {
     let command = attribute_command_at(tape);
     match command {
         AttributeCommand::Plain(span) => {
             if is_valued_key(text, span, &tape[5..]) {
                 if classic {
-                    return plain(text, settings, allowed, tape, span, calls, notices, pen, 5);
+                    return plain(text, brief, allowed, tape, span, calls, notices, pen, 5);
                 }
                 return passed(pen, 5 + skip_value(&tape[5..]), 5);
             }
-            plain(text, settings, allowed, tape, span, calls, notices, pen, 0)
+            plain(text, brief, allowed, tape, span, calls, notices, pen, 0)
         }
         AttributeCommand::Namespaced(namespace, name) => {
             let named = put_bare(calls, pen, 0x84);
             let begun = put_namespaced(calls, named, namespace, name);
-            behind(text, settings, allowed, tape, 9, calls, notices, begun, 0)
+            behind(text, brief, allowed, tape, 9, calls, notices, begun, 0)
         }
         AttributeCommand::Spread(e) => {
             let end = put_over(calls, pen, 0x86, e);
@@ -266,7 +259,7 @@ fn attribute(
 // The attributes up to the 1e.
 fn attrs(
     text: &[u8],
-    settings: Settings,
+    brief: u8,
     allowed: bool,
     classic: bool,
     tape: &[u8],
@@ -278,7 +271,7 @@ fn attrs(
     requires { ⌜ firstIll (now text) ≡ Nothing ⌝ }
     ensures { λ r. ⌜ (r .used ≤ length (now (tape .entry))) × (r .key ≤ length (now (tape .entry))) ⌝ }
     ensures { λ r. ⌜ ((f d : ℕ) (a : Attributes) (u : ℕ) → length (now (tape .entry)) < f → attributesAt f (now (text .entry)) d (now (tape .entry)) ≡ done a u →
-        AttributesWritten (context (now (text .entry)) settings allowed) classic d (now (tape .entry)) a u (now (calls .entry)) (now (calls .exit)) (now (notices .entry)) (now (notices .exit)) pen r) ⌝ }
+        AttributesWritten (context (now (text .entry)) brief allowed) classic d (now (tape .entry)) a u (now (calls .entry)) (now (calls .exit)) (now (notices .entry)) (now (notices .exit)) pen r) ⌝ }
 {
     let mut i: usize = 0;
     let mut next = pen;
@@ -287,7 +280,7 @@ fn attrs(
     loop {
         let step = attribute(
             text,
-            settings,
+            brief,
             allowed,
             classic,
             &tape[i..],
@@ -314,7 +307,7 @@ fn attrs(
 // The child at the front.
 fn transform_jsx_child(
     text: &[u8],
-    settings: Settings,
+    brief: u8,
     allowed: bool,
     tape: &[u8],
     calls: &mut [u8],
@@ -325,7 +318,7 @@ fn transform_jsx_child(
     requires { ⌜ firstIll (now text) ≡ Nothing ⌝ }
     ensures { λ r. ⌜ Moves (length (now (tape .entry))) (r .used) (r .last) × (r .count ≤ r .used) ⌝ }
     ensures { λ r. ⌜ ((f d : ℕ) (k : Children) (u : ℕ) → length (now (tape .entry)) < f → childrenAt f (now (text .entry)) d (now (tape .entry)) ≡ done k u →
-        ChildStep (context (now (text .entry)) settings allowed) d (now (tape .entry)) (now (calls .entry)) (now (calls .exit)) (now (notices .entry)) (now (notices .exit)) pen r f k u) ⌝ }
+        ChildStep (context (now (text .entry)) brief allowed) d (now (tape .entry)) (now (calls .entry)) (now (calls .exit)) (now (notices .entry)) (now (notices .exit)) pen r f k u) ⌝ }
 {
     let command = child_command_at(tape);
     match command {
@@ -358,16 +351,7 @@ fn transform_jsx_child(
             }
         }
         ChildCommand::Element(place) => {
-            let node = transform_jsx(
-                text,
-                settings,
-                allowed,
-                &tape[9..],
-                place,
-                calls,
-                notices,
-                pen,
-            );
+            let node = transform_jsx(text, brief, allowed, &tape[9..], place, calls, notices, pen);
             let end = node.pen;
             Items {
                 pen: end,
@@ -378,7 +362,7 @@ fn transform_jsx_child(
             }
         }
         ChildCommand::Fragment(_) => {
-            let node = fragment(text, settings, allowed, &tape[9..], calls, notices, pen);
+            let node = fragment(text, brief, allowed, &tape[9..], calls, notices, pen);
             let end = node.pen;
             Items {
                 pen: end,
@@ -415,7 +399,7 @@ fn transform_jsx_child(
 // The children up to the 1f.
 fn children(
     text: &[u8],
-    settings: Settings,
+    brief: u8,
     allowed: bool,
     tape: &[u8],
     calls: &mut [u8],
@@ -426,14 +410,14 @@ fn children(
     requires { ⌜ firstIll (now text) ≡ Nothing ⌝ }
     ensures { λ r. ⌜ (r .used ≤ length (now (tape .entry))) × (r .count ≤ length (now (tape .entry))) ⌝ }
     ensures { λ r. ⌜ ((f d : ℕ) (k : Children) (u : ℕ) → length (now (tape .entry)) < f → childrenAt f (now (text .entry)) d (now (tape .entry)) ≡ done k u →
-        ChildrenWritten (context (now (text .entry)) settings allowed) k (lowerChildren (context (now (text .entry)) settings allowed) k) u (now (calls .entry)) (now (calls .exit)) (now (notices .entry)) (now (notices .exit)) pen r) ⌝ }
+        ChildrenWritten (context (now (text .entry)) brief allowed) k (lowerChildren (context (now (text .entry)) brief allowed) k) u (now (calls .entry)) (now (calls .exit)) (now (notices .entry)) (now (notices .exit)) pen r) ⌝ }
 {
     let mut i: usize = 0;
     let mut next = pen;
     let mut count: usize = 0;
     let mut spread = false;
     loop {
-        let step = transform_jsx_child(text, settings, allowed, &tape[i..], calls, notices, next);
+        let step = transform_jsx_child(text, brief, allowed, &tape[i..], calls, notices, next);
         next = step.pen;
         count = count + step.count;
         spread = spread | step.spread;
@@ -453,7 +437,7 @@ fn children(
 // The children of an automatic call and the end of its object. Where no child survives, the object's end takes the place of the children's begin.
 fn inner(
     text: &[u8],
-    settings: Settings,
+    brief: u8,
     allowed: bool,
     tape: &[u8],
     calls: &mut [u8],
@@ -464,10 +448,10 @@ fn inner(
     requires { ⌜ firstIll (now text) ≡ Nothing ⌝ }
     ensures { λ r. ⌜ (r .used ≤ length (now (tape .entry))) × (r .count ≤ length (now (tape .entry))) ⌝ }
     ensures { λ r. ⌜ ((f d : ℕ) (k : Children) (u : ℕ) → length (now (tape .entry)) < f → childrenAt f (now (text .entry)) d (now (tape .entry)) ≡ done k u →
-        ChildrenWritten (context (now (text .entry)) settings allowed) k (childrenObject (context (now (text .entry)) settings allowed) k) u (now (calls .entry)) (now (calls .exit)) (now (notices .entry)) (now (notices .exit)) pen r) ⌝ }
+        ChildrenWritten (context (now (text .entry)) brief allowed) k (childrenObject (context (now (text .entry)) brief allowed) k) u (now (calls .entry)) (now (calls .exit)) (now (notices .entry)) (now (notices .exit)) pen r) ⌝ }
 {
     let begun = put_bare(calls, pen, 0x9a);
-    let items = children(text, settings, allowed, tape, calls, notices, begun);
+    let items = children(text, brief, allowed, tape, calls, notices, begun);
     let used = items.used;
     let count = items.count;
     let spread = items.spread;
@@ -496,7 +480,7 @@ fn inner(
 // The value of the last key, which stands at `key`, or what stands for none.
 fn key_of(
     text: &[u8],
-    settings: Settings,
+    brief: u8,
     allowed: bool,
     tape: &[u8],
     key: usize,
@@ -507,16 +491,16 @@ fn key_of(
     requires { ⌜ length (now text) ≤ 65535 ⌝ }
     requires { ⌜ firstIll (now text) ≡ Nothing ⌝ }
     requires { ⌜ key ≤ length (now tape) ⌝ }
-    ensures { λ r. ⌜ ((d : ℕ) (os : List Output) → KeyAt (context (now (text .entry)) settings allowed) d (now (tape .entry)) (noKey (context (now (text .entry)) settings allowed)) key os →
+    ensures { λ r. ⌜ ((d : ℕ) (os : List Output) → KeyAt (context (now (text .entry)) brief allowed) d (now (tape .entry)) (noKey (context (now (text .entry)) brief allowed)) key os →
         Produced os (now (calls .entry)) (now (calls .exit)) (now (notices .entry)) (now (notices .exit)) pen r) ⌝ }
 {
     if key == 0 {
-        return no_key(settings, calls, pen);
+        return no_key(brief, calls, pen);
     }
     let begun = put_bare(calls, pen, 0x9d);
     let value = transform_jsx_attribute_value(
         text,
-        settings,
+        brief,
         allowed,
         &tape[key..],
         calls,
@@ -529,7 +513,7 @@ fn key_of(
 // An automatic call of an element whose name takes `at` bytes.
 fn automatic(
     text: &[u8],
-    settings: Settings,
+    brief: u8,
     allowed: bool,
     tape: &[u8],
     at: usize,
@@ -543,13 +527,13 @@ fn automatic(
     requires { ⌜ at ≤ length (now tape) ⌝ }
     ensures { λ r. ⌜ r .used ≤ length (now (tape .entry)) ⌝ }
     ensures { λ r. ⌜ ((d f : ℕ) (n : Name) (a : Attributes) (v : ℕ) (k : Children) (w : ℕ) → Parts (now (text .entry)) d (now (tape .entry)) f at n a v k w → Countable place →
-        Written (automaticElement (context (now (text .entry)) settings allowed) place n a k) (at + v + w) (now (calls .entry)) (now (calls .exit)) (now (notices .entry)) (now (notices .exit)) pen (r .pen) (r .used)) ⌝ }
+        Written (automaticElement (context (now (text .entry)) brief allowed) place n a k) (at + v + w) (now (calls .entry)) (now (calls .exit)) (now (notices .entry)) (now (notices .exit)) pen (r .pen) (r .used)) ⌝ }
 {
     let begun = put_byte(calls, pen, 0x80, 1);
     let object = put_bare(calls, begun, 0x81);
     let props = attrs(
         text,
-        settings,
+        brief,
         allowed,
         false,
         &tape[at..],
@@ -559,20 +543,12 @@ fn automatic(
     );
     let inside = props.pen;
     let from = at + props.used;
-    let items = inner(
-        text,
-        settings,
-        allowed,
-        &tape[from..],
-        calls,
-        notices,
-        inside,
-    );
+    let items = inner(text, brief, allowed, &tape[from..], calls, notices, inside);
     let ended = items.pen;
     let count = items.count;
     let keyed = key_of(
         text,
-        settings,
+        brief,
         allowed,
         &tape[at..],
         props.key,
@@ -580,12 +556,12 @@ fn automatic(
         notices,
         ended,
     );
-    let counted = static_children(settings, calls, keyed, count);
-    let sourced = source_output(settings, calls, counted, place);
-    let added = self_output(settings, allowed, calls, sourced);
+    let counted = static_children(brief, calls, keyed, count);
+    let sourced = source_output(brief, calls, counted, place);
+    let added = self_output(brief, allowed, calls, sourced);
     let tagged = put_bare(calls, added, 0x9e);
-    let named = transform_element_name(settings, tape, calls, notices, tagged);
-    let end = closing(settings, calls, named, automatic_name(settings, count));
+    let named = transform_element_name(brief, tape, calls, notices, tagged);
+    let end = closing(brief, calls, named, automatic_name(brief, count));
     Lowered {
         pen: end,
         used: from + items.used,
@@ -595,7 +571,7 @@ fn automatic(
 // The object of a classic call, or null in its place where there is no property.
 fn or_null(
     text: &[u8],
-    settings: Settings,
+    brief: u8,
     allowed: bool,
     tape: &[u8],
     place: Place,
@@ -607,15 +583,15 @@ fn or_null(
     requires { ⌜ firstIll (now text) ≡ Nothing ⌝ }
     ensures { λ r. ⌜ r .used ≤ length (now (tape .entry)) ⌝ }
     ensures { λ r. ⌜ ((d f : ℕ) (a : Attributes) (u : ℕ) → length (now (tape .entry)) < f → attributesAt f (now (text .entry)) d (now (tape .entry)) ≡ done a u → Countable place →
-        Written (objectOf (classicProperties (context (now (text .entry)) settings allowed) place a)) u (now (calls .entry)) (now (calls .exit)) (now (notices .entry)) (now (notices .exit)) pen (r .pen) (r .used)) ⌝ }
+        Written (objectOf (classicProperties (context (now (text .entry)) brief allowed) place a)) u (now (calls .entry)) (now (calls .exit)) (now (notices .entry)) (now (notices .exit)) pen (r .pen) (r .used)) ⌝ }
 {
     let begun = put_bare(calls, pen, 0x81);
-    let props = attrs(text, settings, allowed, true, tape, calls, notices, begun);
+    let props = attrs(text, brief, allowed, true, tape, calls, notices, begun);
     let inside = props.pen;
     let used = props.used;
-    let added = self_output(settings, allowed, calls, inside);
-    let sourced = source_output(settings, calls, added, place);
-    if has_more(settings, allowed, props.some) {
+    let added = self_output(brief, allowed, calls, inside);
+    let sourced = source_output(brief, calls, added, place);
+    if has_more(brief, allowed, props.some) {
         let end = put_bare(calls, sourced, 0x82);
         return Lowered {
             pen: end,
@@ -632,7 +608,7 @@ fn or_null(
 // The argument of a classic call behind the tag: a sole spread, an object or null.
 fn argument(
     text: &[u8],
-    settings: Settings,
+    brief: u8,
     allowed: bool,
     tape: &[u8],
     place: Place,
@@ -644,9 +620,9 @@ fn argument(
     requires { ⌜ firstIll (now text) ≡ Nothing ⌝ }
     ensures { λ r. ⌜ r .used ≤ length (now (tape .entry)) ⌝ }
     ensures { λ r. ⌜ ((d f : ℕ) (a : Attributes) (u : ℕ) → length (now (tape .entry)) < f → attributesAt f (now (text .entry)) d (now (tape .entry)) ≡ done a u → Countable place →
-        Written (loneSpreadOr (context (now (text .entry)) settings allowed) a (objectOf (classicProperties (context (now (text .entry)) settings allowed) place a))) u (now (calls .entry)) (now (calls .exit)) (now (notices .entry)) (now (notices .exit)) pen (r .pen) (r .used)) ⌝ }
+        Written (loneSpreadOr (context (now (text .entry)) brief allowed) a (objectOf (classicProperties (context (now (text .entry)) brief allowed) place a))) u (now (calls .entry)) (now (calls .exit)) (now (notices .entry)) (now (notices .exit)) pen (r .pen) (r .used)) ⌝ }
 {
-    let lone = lone_spread(text, settings, tape);
+    let lone = lone_spread(text, brief, tape);
     match lone {
         Lone::Sole(e, used) => {
             let end = put_over(calls, pen, 0x89, e);
@@ -655,14 +631,14 @@ fn argument(
                 used: used,
             }
         }
-        Lone::Object => or_null(text, settings, allowed, tape, place, calls, notices, pen),
+        Lone::Object => or_null(text, brief, allowed, tape, place, calls, notices, pen),
     }
 }
 
 // A classic call of an element whose name takes `at` bytes.
 fn create(
     text: &[u8],
-    settings: Settings,
+    brief: u8,
     allowed: bool,
     tape: &[u8],
     at: usize,
@@ -676,12 +652,12 @@ fn create(
     requires { ⌜ at ≤ length (now tape) ⌝ }
     ensures { λ r. ⌜ r .used ≤ length (now (tape .entry)) ⌝ }
     ensures { λ r. ⌜ ((d f : ℕ) (n : Name) (a : Attributes) (v : ℕ) (k : Children) (w : ℕ) → Parts (now (text .entry)) d (now (tape .entry)) f at n a v k w → Countable place →
-        Written (classicCallOf (context (now (text .entry)) settings allowed) place n a k) (at + v + w) (now (calls .entry)) (now (calls .exit)) (now (notices .entry)) (now (notices .exit)) pen (r .pen) (r .used)) ⌝ }
+        Written (classicCallOf (context (now (text .entry)) brief allowed) place n a k) (at + v + w) (now (calls .entry)) (now (calls .exit)) (now (notices .entry)) (now (notices .exit)) pen (r .pen) (r .used)) ⌝ }
 {
     let begun = put_byte(calls, pen, 0x80, 0);
     let first = argument(
         text,
-        settings,
+        brief,
         allowed,
         &tape[at..],
         place,
@@ -691,19 +667,11 @@ fn create(
     );
     let inside = first.pen;
     let from = at + first.used;
-    let items = children(
-        text,
-        settings,
-        allowed,
-        &tape[from..],
-        calls,
-        notices,
-        inside,
-    );
+    let items = children(text, brief, allowed, &tape[from..], calls, notices, inside);
     let filled = items.pen;
     let tagged = put_bare(calls, filled, 0x9e);
-    let named = transform_element_name(settings, tape, calls, notices, tagged);
-    let end = closing(settings, calls, named, 1);
+    let named = transform_element_name(brief, tape, calls, notices, tagged);
+    let end = closing(brief, calls, named, 1);
     Lowered {
         pen: end,
         used: from + items.used,
@@ -713,7 +681,7 @@ fn create(
 // An element behind its 10 and place.
 fn transform_jsx(
     text: &[u8],
-    settings: Settings,
+    brief: u8,
     allowed: bool,
     tape: &[u8],
     place: Place,
@@ -725,39 +693,19 @@ fn transform_jsx(
     requires { ⌜ firstIll (now text) ≡ Nothing ⌝ }
     ensures { λ r. ⌜ r .used ≤ length (now (tape .entry)) ⌝ }
     ensures { λ r. ⌜ ((f d : ℕ) (n : Node) (u : ℕ) → suc (length (now (tape .entry))) < f → elementAt f (now (text .entry)) d place (now (tape .entry)) ≡ done n u → Countable place →
-        Written (lowerNode (context (now (text .entry)) settings allowed) n) u (now (calls .entry)) (now (calls .exit)) (now (notices .entry)) (now (notices .exit)) pen (r .pen) (r .used)) ⌝ }
+        Written (lowerNode (context (now (text .entry)) brief allowed) n) u (now (calls .entry)) (now (calls .exit)) (now (notices .entry)) (now (notices .exit)) pen (r .pen) (r .used)) ⌝ }
 {
     let at = skip_name(tape);
-    if is_classic_element(text, settings, &tape[at..]) {
-        return create(
-            text,
-            settings,
-            allowed,
-            tape,
-            at,
-            place,
-            calls,
-            notices,
-            pen,
-        );
+    if is_classic_element(text, brief, &tape[at..]) {
+        return create(text, brief, allowed, tape, at, place, calls, notices, pen);
     }
-    automatic(
-        text,
-        settings,
-        allowed,
-        tape,
-        at,
-        place,
-        calls,
-        notices,
-        pen,
-    )
+    automatic(text, brief, allowed, tape, at, place, calls, notices, pen)
 }
 
 // A fragment behind its 11 and place.
 fn fragment(
     text: &[u8],
-    settings: Settings,
+    brief: u8,
     allowed: bool,
     tape: &[u8],
     calls: &mut [u8],
@@ -768,18 +716,17 @@ fn fragment(
     requires { ⌜ firstIll (now text) ≡ Nothing ⌝ }
     ensures { λ r. ⌜ r .used ≤ length (now (tape .entry)) ⌝ }
     ensures { λ r. ⌜ ((f d : ℕ) (place : places.Place) (n : Node) (u : ℕ) → suc (length (now (tape .entry))) < f → fragmentAt f (now (text .entry)) d place (now (tape .entry)) ≡ done n u →
-        Written (lowerNode (context (now (text .entry)) settings allowed) n) u (now (calls .entry)) (now (calls .exit)) (now (notices .entry)) (now (notices .exit)) pen (r .pen) (r .used)) ⌝ }
+        Written (lowerNode (context (now (text .entry)) brief allowed) n) u (now (calls .entry)) (now (calls .exit)) (now (notices .entry)) (now (notices .exit)) pen (r .pen) (r .used)) ⌝ }
 {
-    let mode = settings.mode;
-    if is_classic(mode) {
-        return bare(text, settings, allowed, tape, calls, notices, pen);
+    if is_classic(mode_of(brief)) {
+        return bare(text, brief, allowed, tape, calls, notices, pen);
     }
-    bare_auto(text, settings, allowed, tape, calls, notices, pen)
+    bare_auto(text, brief, allowed, tape, calls, notices, pen)
 }
 
 fn bare(
     text: &[u8],
-    settings: Settings,
+    brief: u8,
     allowed: bool,
     tape: &[u8],
     calls: &mut [u8],
@@ -790,16 +737,15 @@ fn bare(
     requires { ⌜ firstIll (now text) ≡ Nothing ⌝ }
     ensures { λ r. ⌜ r .used ≤ length (now (tape .entry)) ⌝ }
     ensures { λ r. ⌜ ((f d : ℕ) (k : Children) (u : ℕ) → length (now (tape .entry)) < f → childrenAt f (now (text .entry)) d (now (tape .entry)) ≡ done k u →
-        Written (classicFragment (context (now (text .entry)) settings allowed) k) u (now (calls .entry)) (now (calls .exit)) (now (notices .entry)) (now (notices .exit)) pen (r .pen) (r .used)) ⌝ }
+        Written (classicFragment (context (now (text .entry)) brief allowed) k) u (now (calls .entry)) (now (calls .exit)) (now (notices .entry)) (now (notices .exit)) pen (r .pen) (r .used)) ⌝ }
 {
     let begun = put_byte(calls, pen, 0x80, 0);
     let null = put_bare(calls, begun, 0x88);
-    let items = children(text, settings, allowed, tape, calls, notices, null);
+    let items = children(text, brief, allowed, tape, calls, notices, null);
     let filled = items.pen;
     let tagged = put_bare(calls, filled, 0x9e);
-    let mode = settings.mode;
-    let named = get_fragment(mode, calls, tagged);
-    let end = closing(settings, calls, named, 1);
+    let named = get_fragment(mode_of(brief), calls, tagged);
+    let end = closing(brief, calls, named, 1);
     Lowered {
         pen: end,
         used: items.used,
@@ -808,7 +754,7 @@ fn bare(
 
 fn bare_auto(
     text: &[u8],
-    settings: Settings,
+    brief: u8,
     allowed: bool,
     tape: &[u8],
     calls: &mut [u8],
@@ -819,19 +765,18 @@ fn bare_auto(
     requires { ⌜ firstIll (now text) ≡ Nothing ⌝ }
     ensures { λ r. ⌜ r .used ≤ length (now (tape .entry)) ⌝ }
     ensures { λ r. ⌜ ((f d : ℕ) (k : Children) (u : ℕ) → length (now (tape .entry)) < f → childrenAt f (now (text .entry)) d (now (tape .entry)) ≡ done k u →
-        Written (automaticFragment (context (now (text .entry)) settings allowed) k) u (now (calls .entry)) (now (calls .exit)) (now (notices .entry)) (now (notices .exit)) pen (r .pen) (r .used)) ⌝ }
+        Written (automaticFragment (context (now (text .entry)) brief allowed) k) u (now (calls .entry)) (now (calls .exit)) (now (notices .entry)) (now (notices .exit)) pen (r .pen) (r .used)) ⌝ }
 {
     let begun = put_byte(calls, pen, 0x80, 1);
     let object = put_bare(calls, begun, 0x81);
-    let items = inner(text, settings, allowed, tape, calls, notices, object);
+    let items = inner(text, brief, allowed, tape, calls, notices, object);
     let ended = items.pen;
     let count = items.count;
-    let keyed = no_key(settings, calls, ended);
-    let counted = static_children(settings, calls, keyed, count);
+    let keyed = no_key(brief, calls, ended);
+    let counted = static_children(brief, calls, keyed, count);
     let tagged = put_bare(calls, counted, 0x9e);
-    let mode = settings.mode;
-    let named = get_fragment(mode, calls, tagged);
-    let end = closing(settings, calls, named, automatic_name(settings, count));
+    let named = get_fragment(mode_of(brief), calls, tagged);
+    let end = closing(brief, calls, named, automatic_name(brief, count));
     Lowered {
         pen: end,
         used: items.used,
@@ -841,7 +786,7 @@ fn bare_auto(
 // The element or fragment that stands at the front of what follows a root's scopes.
 fn transform_root(
     text: &[u8],
-    settings: Settings,
+    brief: u8,
     allowed: bool,
     tape: &[u8],
     calls: &mut [u8],
@@ -851,25 +796,16 @@ fn transform_root(
     requires { ⌜ length (now text) ≤ 65535 ⌝ }
     requires { ⌜ firstIll (now text) ≡ Nothing ⌝ }
     ensures { λ r. ⌜ ((n : Node) → NodeAt (now (text .entry)) (now (tape .entry)) n →
-        Produced (lowerNode (context (now (text .entry)) settings allowed) n) (now (calls .entry)) (now (calls .exit)) (now (notices .entry)) (now (notices .exit)) pen r) ⌝ }
+        Produced (lowerNode (context (now (text .entry)) brief allowed) n) (now (calls .entry)) (now (calls .exit)) (now (notices .entry)) (now (notices .exit)) pen r) ⌝ }
 {
     let command = scope_command_at(true, tape);
     match command {
         ScopeCommand::Element(place) => {
-            let node = transform_jsx(
-                text,
-                settings,
-                allowed,
-                &tape[9..],
-                place,
-                calls,
-                notices,
-                pen,
-            );
+            let node = transform_jsx(text, brief, allowed, &tape[9..], place, calls, notices, pen);
             node.pen
         }
         ScopeCommand::Fragment(_) => {
-            let node = fragment(text, settings, allowed, &tape[9..], calls, notices, pen);
+            let node = fragment(text, brief, allowed, &tape[9..], calls, notices, pen);
             node.pen
         }
         ScopeCommand::Scope(_) => pen,
@@ -897,7 +833,7 @@ pub fn lower(
     let at = head.used;
     transform_root(
         text,
-        settings,
+        brief(settings),
         head.allowed,
         &tape[at..],
         calls,

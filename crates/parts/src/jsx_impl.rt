@@ -18,6 +18,7 @@ ghost use Rattle.definitions.specs.Tree.{Name, Property, Attributes, Value};
 ghost use Rattle.definitions.specs.Reading.{membersAt, nameAt, propertiesAt, attributesAt, valueAt};
 ghost use Rattle.definitions.specs.Lowering.{Context, Output, isKey, hasValue, keyNotice, keyAfterSpread, classicElement, formOf, lowerLiteral, selfOutput, sourceOutput};
 ghost use Rattle.pen.specs.Emitting.{Noticed};
+ghost use Rattle.emit.specs.Brief.{settingsIn};
 ghost use Rattle.parts.specs.Promises.{SoleAt, IsText, TextWritten, LiteralWritten, someOutput, Alone, LoneWithin, FrontWithin, FrontIs};
 use commands::root::AttributeCommand;
 use commands::root::MemberCommand;
@@ -30,7 +31,9 @@ use commands::root::name_command_at;
 use commands::root::property_command_at;
 use commands::root::value_command_at;
 use definitions::options::Mode;
-use definitions::options::Settings;
+use emit::brief::has_self_plugin;
+use emit::brief::has_source_plugin;
+use emit::brief::mode_of;
 use emit::jsx_impl::has_proto;
 use emit::jsx_impl::lower_literal;
 use jsx_text::fixup_whitespace_and_decode_entities;
@@ -208,17 +211,17 @@ pub fn children_form(count: usize, spread: bool) -> u8
 }
 
 // Whether a classic call of an element has a property.
-pub fn has_more(settings: Settings, allowed: bool, some: bool) -> bool
-    ensures { λ r. ⌜ ((c : Context) → c .settings ≡ settings → c .selfAllowed ≡ allowed → (place : places.Place) (os : List Output) → someOutput os ≡ some →
+pub fn has_more(brief: u8, allowed: bool, some: bool) -> bool
+    ensures { λ r. ⌜ ((c : Context) → c .settings ≡ settingsIn brief → c .selfAllowed ≡ allowed → (place : places.Place) (os : List Output) → someOutput os ≡ some →
         r ≡ someOutput (os ++ selfOutput c ++ sourceOutput c place)) ⌝ }
 {
     if some {
         return true;
     }
-    if settings.options.flags.source_plugin {
+    if has_source_plugin(brief) {
         return true;
     }
-    if settings.options.flags.self_plugin {
+    if has_self_plugin(brief) {
         return allowed;
     }
     false
@@ -277,15 +280,15 @@ fn sole(tape: &[u8], e: u16, n: usize) -> Lone
 }
 
 // Whether a classic call's attributes are a lone spread: the plugin options decide, not whether `this` may be used.
-pub fn lone_spread(text: &[u8], settings: Settings, tape: &[u8]) -> Lone
+pub fn lone_spread(text: &[u8], brief: u8, tape: &[u8]) -> Lone
     ensures { λ r. ⌜ LoneWithin (length (now (tape .entry))) r ⌝ }
-    ensures { λ r. ⌜ ((c : Context) → c .text ≡ now (text .entry) → c .settings ≡ settings → (f d : ℕ) (a : Attributes) (u : ℕ) → length (now (tape .entry)) < f →
+    ensures { λ r. ⌜ ((c : Context) → c .text ≡ now (text .entry) → c .settings ≡ settingsIn brief → (f d : ℕ) (a : Attributes) (u : ℕ) → length (now (tape .entry)) < f →
         attributesAt f (now (text .entry)) d (now (tape .entry)) ≡ done a u → SoleAt c a u r) ⌝ }
 {
-    if settings.options.flags.self_plugin {
+    if has_self_plugin(brief) {
         return Lone::Object;
     }
-    if settings.options.flags.source_plugin {
+    if has_source_plugin(brief) {
         return Lone::Object;
     }
     let command = attribute_command_at(tape);
@@ -367,12 +370,11 @@ fn has_key_after_props_spread(text: &[u8], tape: &[u8]) -> bool
 }
 
 // Whether the call of an element with these attributes is classic.
-pub fn is_classic_element(text: &[u8], settings: Settings, tape: &[u8]) -> bool
-    ensures { λ r. ⌜ ((c : Context) → c .text ≡ now (text .entry) → c .settings ≡ settings → (f d : ℕ) (a : Attributes) (u : ℕ) → length (now (tape .entry)) < f →
+pub fn is_classic_element(text: &[u8], brief: u8, tape: &[u8]) -> bool
+    ensures { λ r. ⌜ ((c : Context) → c .text ≡ now (text .entry) → c .settings ≡ settingsIn brief → (f d : ℕ) (a : Attributes) (u : ℕ) → length (now (tape .entry)) < f →
         attributesAt f (now (text .entry)) d (now (tape .entry)) ≡ done a u → r ≡ classicElement c a) ⌝ }
 {
-    let mode = settings.mode;
-    if is_classic(mode) {
+    if is_classic(mode_of(brief)) {
         return true;
     }
     has_key_after_props_spread(text, tape)

@@ -73,6 +73,9 @@ transform-jsx-member-expression-requires-2 c κs = search needs
 enum-known-command-3 : tie.Need-enum-known-command-3
 enum-known-command-3 c = search needs
 
+throws-if-namespace-requires : tie.Need-throws-if-namespace-requires
+throws-if-namespace-requires c κs = search needs
+
 namespace-does-not-support-requires : tie.Need-namespace-does-not-support-requires
 namespace-does-not-support-requires c κs = search needs
 
@@ -88,8 +91,8 @@ same-length-2 c = search needs
 returns : tie.Need-returns
 unfolding lowerName
 returns c = λ k e text f n u h r.
-    rw (← name-namespaced f text ((c .before .before .before .before .before .before .before .before .before .before .before .before .before .before .before .before .args) .tape .now) n u r ((c .before .before .before .before .before .before .before .before .before .before .command3) .given .0 .0) ((c .before .before .before .before .before .before .before .before .before .before .command3) .given .0 .1 .0) (there (c .before .before .before .before .before .before .before .before .before .before .before .before) ((c .before .before .before .before .before .before .before .before .before .before .command3) .given .1)), e, (c .before .before .before .before .before .before .before .before .if1) .taken)
-    (produced-then (short (c .before .before .before .before .before .before .before .before .before .before .before .before .before .before .before .before) .0) (short (c .before .before .before .before .before .before .before .before .before .before .before .before .before .before .before .before) .1) (noticed-produced ((c .before .before .before .before .before .before .namespace-does-not-support) .ensures)) (called-produced ((c .before .before .put-namespaced) .ensures)))
+    rw (← name-namespaced f text ((c .before .before .before .before .before .before .before .before .before .before .before .before .before .before .before .before .before .args) .tape .now) n u r ((c .before .before .before .before .before .before .before .before .before .before .before .command3) .given .0 .0) ((c .before .before .before .before .before .before .before .before .before .before .before .command3) .given .0 .1 .0) (there (c .before .before .before .before .before .before .before .before .before .before .before .before .before) ((c .before .before .before .before .before .before .before .before .before .before .before .command3) .given .1)), e, told ((c .before .before .before .before .before .before .before .before .before .throws-if-namespace) .ensures) ((c .before .before .before .before .before .before .before .before .if1) .taken))
+    (produced-then (short (c .before .before .before .before .before .before .before .before .before .before .before .before .before .before .before .before .before) .0) (short (c .before .before .before .before .before .before .before .before .before .before .before .before .before .before .before .before .before) .1) (noticed-produced ((c .before .before .before .before .before .before .namespace-does-not-support) .ensures)) (called-produced ((c .before .before .put-namespaced) .ensures)))
 
 put-namespaced-requires-2 : tie.Need-put-namespaced-requires-2
 put-namespaced-requires-2 c κs = search needs
@@ -138,7 +141,7 @@ same-length-6 c = search needs
 returns-5 : tie.Need-returns-5
 unfolding lowerName
 returns-5 c = λ k e text f n u h r.
-    rw (← name-namespaced f text ((c .before .before .before .before .before .before .before .before .before .before .before .before .args) .tape .now) n u r ((c .before .before .before .before .before .before .command3) .given .0 .0) ((c .before .before .before .before .before .before .command3) .given .0 .1 .0) (there (c .before .before .before .before .before .before .before .before) ((c .before .before .before .before .before .before .command3) .given .1)), e, (c .before .before .before .before .if1) .left) (called-produced ((c .before .before .put-namespaced2) .ensures))
+    rw (← name-namespaced f text ((c .before .before .before .before .before .before .before .before .before .before .before .before .before .args) .tape .now) n u r ((c .before .before .before .before .before .before .before .command3) .given .0 .0) ((c .before .before .before .before .before .before .before .command3) .given .0 .1 .0) (there (c .before .before .before .before .before .before .before .before .before) ((c .before .before .before .before .before .before .before .command3) .given .1)), e, told ((c .before .before .before .before .before .throws-if-namespace) .ensures) ((c .before .before .before .before .if1) .left)) (called-produced ((c .before .before .put-namespaced2) .ensures))
 
 returns-6 : tie.Need-returns-6
 returns-6 c = λ k e text f n u h r. name-wrong f text ((c .before .before .before .before .before .before .args) .tape .now) n u r (there (c .before .before) ((c .enum-told2) .given .1))
@@ -166,6 +169,7 @@ transform-element-name-spec =
     part-transform-jsx-member-expression-end-2
     transform-jsx-member-expression-requires-2
     enum-known-command-3
+    throws-if-namespace-requires
     namespace-does-not-support-requires
     put-namespaced-requires
     same-length

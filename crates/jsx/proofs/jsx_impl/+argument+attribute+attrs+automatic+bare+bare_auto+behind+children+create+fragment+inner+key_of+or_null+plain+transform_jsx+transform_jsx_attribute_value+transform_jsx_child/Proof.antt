@@ -1,3 +1,4 @@
+use Rattle.definitions.specs.Lowering.{isClassic}
 use Rattle.definitions.specs.Calls as call
 use Rattle.definitions.specs.Calls.{bareCode, byteCode, expressionCode}
 use Rattle.commands.proofs.Lengths.{attribute-fits, value-fits, child-fits}
@@ -77,6 +78,7 @@ use Rattle.commands.proofs.root.value_command_at.Reads as value-command-at-read
 use Rattle.emit.proofs.jsx_impl.automatic_name.Reads as automatic-name-reads
 use Rattle.emit.proofs.jsx_impl.closing.Reads as closing-reads
 use Rattle.emit.proofs.jsx_impl.get_attribute_name.Reads as get-attribute-name-reads
+use Rattle.emit.proofs.brief.mode_of.Reads as mode-of-reads
 use Rattle.emit.proofs.jsx_impl.get_fragment.Reads as get-fragment-reads
 use Rattle.emit.proofs.jsx_impl.no_key.Reads as no-key-reads
 use Rattle.pen.proofs.strings.put_namespaced.Reads as put-namespaced-reads
@@ -370,10 +372,10 @@ abbrev automatic-claims : ℕ → automatic-lts.Claims
 automatic-claims t = (put-byte-reads.Asked, put-byte-reads.Learnt, put-bare-reads.Asked, put-bare-reads.Learnt, attrs-below t, attrs.Post, inner-below t, inner.Post, key-of-below t, key-of.Post, static-children-reads.Asked, static-children-reads.Learnt, source-output-reads.Asked, source-output-reads.Learnt, self-output-reads.Asked, self-output-reads.Learnt, transform-element-name-reads.Asked, transform-element-name-reads.Learnt, automatic-name-reads.Asked, automatic-name-reads.Learnt, closing-reads.Asked, closing-reads.Learnt)
 
 abbrev bare-auto-claims : ℕ → bare-auto-lts.Claims
-bare-auto-claims t = (put-byte-reads.Asked, put-byte-reads.Learnt, put-bare-reads.Asked, put-bare-reads.Learnt, inner-below t, inner.Post, no-key-reads.Asked, no-key-reads.Learnt, static-children-reads.Asked, static-children-reads.Learnt, get-fragment-reads.Asked, get-fragment-reads.Learnt, automatic-name-reads.Asked, automatic-name-reads.Learnt, closing-reads.Asked, closing-reads.Learnt)
+bare-auto-claims t = (put-byte-reads.Asked, put-byte-reads.Learnt, put-bare-reads.Asked, put-bare-reads.Learnt, inner-below t, inner.Post, no-key-reads.Asked, no-key-reads.Learnt, static-children-reads.Asked, static-children-reads.Learnt, mode-of-reads.Asked, mode-of-reads.Learnt, get-fragment-reads.Asked, get-fragment-reads.Learnt, automatic-name-reads.Asked, automatic-name-reads.Learnt, closing-reads.Asked, closing-reads.Learnt)
 
 abbrev bare-claims : ℕ → bare-lts.Claims
-bare-claims t = (put-byte-reads.Asked, put-byte-reads.Learnt, put-bare-reads.Asked, put-bare-reads.Learnt, children-below t, children.Post, get-fragment-reads.Asked, get-fragment-reads.Learnt, closing-reads.Asked, closing-reads.Learnt)
+bare-claims t = (put-byte-reads.Asked, put-byte-reads.Learnt, put-bare-reads.Asked, put-bare-reads.Learnt, children-below t, children.Post, mode-of-reads.Asked, mode-of-reads.Learnt, get-fragment-reads.Asked, get-fragment-reads.Learnt, closing-reads.Asked, closing-reads.Learnt)
 
 abbrev inner-claims : ℕ → inner-lts.Claims
 inner-claims t = (put-bare-reads.Asked, put-bare-reads.Learnt, children-below t, children.Post, children-form-reads.Asked, children-form-reads.Learnt, put-byte-reads.Asked, put-byte-reads.Learnt)
@@ -394,7 +396,7 @@ abbrev plain-claims : ℕ → plain-lts.Claims
 plain-claims t = (key-notice-reads.Asked, key-notice-reads.Learnt, get-attribute-name-reads.Asked, get-attribute-name-reads.Learnt, behind-below t, behind.Post)
 
 abbrev fragment-claims : ℕ → fragment-lts.Claims
-fragment-claims t = (is-classic-reads.Asked, is-classic-reads.Learnt, bare-below t, bare.Post, bare-auto-below t, bare-auto.Post)
+fragment-claims t = (mode-of-reads.Asked, mode-of-reads.Learnt, is-classic-reads.Asked, is-classic-reads.Learnt, bare-below t, bare.Post, bare-auto-below t, bare-auto.Post)
 
 abbrev transform-jsx-claims : ℕ → transform-jsx-lts.Claims
 transform-jsx-claims t = (skip-name-reads.Asked, skip-name-reads.Learnt, is-classic-element-reads.Asked, is-classic-element-reads.Learnt, create-below t, create.Post, automatic-below t, automatic.Post)
@@ -739,6 +741,9 @@ bare-auto-static-children-requires t c κs = search needs
 bare-auto-put-bare-requires-2 : (t : ℕ) → bare-auto-lts.Need-put-bare-requires-2 (bare-auto-claims t) (bare-auto-at t) bare-auto.Post
 bare-auto-put-bare-requires-2 t c κs = search needs
 
+bare-auto-mode-of-requires : (t : ℕ) → bare-auto-lts.Need-mode-of-requires (bare-auto-claims t) (bare-auto-at t) bare-auto.Post
+bare-auto-mode-of-requires t c κs = search needs
+
 bare-auto-get-fragment-requires : (t : ℕ) → bare-auto-lts.Need-get-fragment-requires (bare-auto-claims t) (bare-auto-at t) bare-auto.Post
 bare-auto-get-fragment-requires t c κs = search needs
 
@@ -749,14 +754,14 @@ bare-auto-closing-requires : (t : ℕ) → bare-auto-lts.Need-closing-requires (
 bare-auto-closing-requires t c κs = search needs
 
 bare-auto-same-length : (t : ℕ) → bare-auto-lts.Need-same-length (bare-auto-claims t) (bare-auto-at t) bare-auto.Post
-bare-auto-same-length t c = (c .before .before .closing) .kept .1 .0 ∙ (c .before .before .before .before .before .before .before .get-fragment) .kept .1 .0 ∙ (c .before .before .before .before .before .before .before .before .before .before .before .put-bare2) .kept .0 ∙ (c .before .before .before .before .before .before .before .before .before .before .before .before .before .before .before .static-children) .kept .1 .0 ∙ (c .before .before .before .before .before .before .before .before .before .before .before .before .before .before .before .before .before .before .before .no-key) .kept .1 .0 ∙ (c .before .before .before .before .before .before .before .before .before .before .before .before .before .before .before .before .before .before .before .before .before .before .before .before .before .before .inner) .kept .1 .1 .1 .1 .0 ∙ (c .before .before .before .before .before .before .before .before .before .before .before .before .before .before .before .before .before .before .before .before .before .before .before .before .before .before .before .before .before .before .before .put-bare) .kept .0 ∙ (c .before .before .before .before .before .before .before .before .before .before .before .before .before .before .before .before .before .before .before .before .before .before .before .before .before .before .before .before .before .before .before .before .before .before .before .put-byte) .kept .0
+bare-auto-same-length t c = (c .before .before .closing) .kept .1 .0 ∙ (c .before .before .before .before .before .before .before .get-fragment) .kept .1 .0 ∙ (c .before .before .before .before .before .before .before .before .before .before .before .before .put-bare2) .kept .0 ∙ (c .before .before .before .before .before .before .before .before .before .before .before .before .before .before .before .before .static-children) .kept .1 .0 ∙ (c .before .before .before .before .before .before .before .before .before .before .before .before .before .before .before .before .before .before .before .before .no-key) .kept .1 .0 ∙ (c .before .before .before .before .before .before .before .before .before .before .before .before .before .before .before .before .before .before .before .before .before .before .before .before .before .before .before .inner) .kept .1 .1 .1 .1 .0 ∙ (c .before .before .before .before .before .before .before .before .before .before .before .before .before .before .before .before .before .before .before .before .before .before .before .before .before .before .before .before .before .before .before .before .put-bare) .kept .0 ∙ (c .before .before .before .before .before .before .before .before .before .before .before .before .before .before .before .before .before .before .before .before .before .before .before .before .before .before .before .before .before .before .before .before .before .before .before .before .put-byte) .kept .0
 
 bare-auto-same-length-2 : (t : ℕ) → bare-auto-lts.Need-same-length-2 (bare-auto-claims t) (bare-auto-at t) bare-auto.Post
-bare-auto-same-length-2 t c = (c .before .before .before .before .before .before .before .before .before .before .before .before .before .before .before .before .before .before .before .before .before .before .before .before .before .before .inner) .kept .1 .1 .1 .1 .1 .0
+bare-auto-same-length-2 t c = (c .before .before .before .before .before .before .before .before .before .before .before .before .before .before .before .before .before .before .before .before .before .before .before .before .before .before .before .inner) .kept .1 .1 .1 .1 .1 .0
 
 bare-auto-returns : (t : ℕ) → bare-auto-lts.Need-returns (bare-auto-claims t) (bare-auto-at t) bare-auto.Post
 unfolding call.bareCode call.byteCode
-bare-auto-returns t c = ((c .before .before .before .before .before .before .before .before .before .before .before .before .before .before .before .before .before .before .before .before .before .before .before .before .before .before .inner) .ensures .0 .0, λ f d k u h e. bare-automatic-call _ (bare-auto-short t (c .before .before .before .before .before .before .before .before .before .before .before .before .before .before .before .before .before .before .before .before .before .before .before .before .before .before .before .before .before .before .before .before .before .before .before .before .before .before .before .before .before) .0) (bare-auto-short t (c .before .before .before .before .before .before .before .before .before .before .before .before .before .before .before .before .before .before .before .before .before .before .before .before .before .before .before .before .before .before .before .before .before .before .before .before .before .before .before .before .before) .1) k ((c .before .before .before .before .before .before .before .before .before .before .before .before .before .before .before .before .before .before .before .before .before .before .before .before .before .before .before .before .before .before .before .before .before .before .before .put-byte) .ensures call.call refl) ((c .before .before .before .before .before .before .before .before .before .before .before .before .before .before .before .before .before .before .before .before .before .before .before .before .before .before .before .before .before .before .before .put-bare) .ensures call.objectBegin refl) ((c .before .before .before .before .before .before .before .before .before .before .before .before .before .before .before .before .before .before .before .before .before .before .before .before .before .before .inner) .ensures .1 f d k u h e) ((c .before .before .before .before .before .before .before .before .before .before .before .before .before .before .before .before .before .before .before .no-key) .ensures _ refl) ((c .before .before .before .before .before .before .before .before .before .before .before .before .before .before .before .static-children) .ensures _ refl) ((c .before .before .before .before .before .before .before .before .before .before .before .put-bare2) .ensures call.tag refl) ((c .before .before .before .before .before .before .before .get-fragment) .ensures) ((c .before .before .before .automatic-name) .ensures _ refl) ((c .before .before .closing) .ensures))
+bare-auto-returns t c = ((c .before .before .before .before .before .before .before .before .before .before .before .before .before .before .before .before .before .before .before .before .before .before .before .before .before .before .before .inner) .ensures .0 .0, λ f d k u h e. bare-automatic-call _ (bare-auto-short t (c .before .before .before .before .before .before .before .before .before .before .before .before .before .before .before .before .before .before .before .before .before .before .before .before .before .before .before .before .before .before .before .before .before .before .before .before .before .before .before .before .before .before) .0) (bare-auto-short t (c .before .before .before .before .before .before .before .before .before .before .before .before .before .before .before .before .before .before .before .before .before .before .before .before .before .before .before .before .before .before .before .before .before .before .before .before .before .before .before .before .before .before) .1) k ((c .before .before .before .before .before .before .before .before .before .before .before .before .before .before .before .before .before .before .before .before .before .before .before .before .before .before .before .before .before .before .before .before .before .before .before .before .put-byte) .ensures call.call refl) ((c .before .before .before .before .before .before .before .before .before .before .before .before .before .before .before .before .before .before .before .before .before .before .before .before .before .before .before .before .before .before .before .before .put-bare) .ensures call.objectBegin refl) ((c .before .before .before .before .before .before .before .before .before .before .before .before .before .before .before .before .before .before .before .before .before .before .before .before .before .before .before .inner) .ensures .1 f d k u h e) ((c .before .before .before .before .before .before .before .before .before .before .before .before .before .before .before .before .before .before .before .before .no-key) .ensures _ refl) ((c .before .before .before .before .before .before .before .before .before .before .before .before .before .before .before .before .static-children) .ensures _ refl) ((c .before .before .before .before .before .before .before .before .before .before .before .before .put-bare2) .ensures call.tag refl) (rw ((c .before .before .before .before .before .before .before .before .before .mode-of) .ensures) at ((c .before .before .before .before .before .before .before .get-fragment) .ensures)) ((c .before .before .before .automatic-name) .ensures _ refl) ((c .before .before .closing) .ensures))
 
 bare-short : (t : ℕ) (c : bare-lts.Start (bare-claims t) (bare-at t) bare.Post)
     → (length (c .args .calls .now) ≤ 2 ^ 63) × (length (c .args .notices .now) ≤ 2 ^ 63) × (length (c .args .tape .now) ≤ 2 ^ 63)
@@ -774,6 +779,9 @@ bare-children-requires t c κs = (omega (arith, (c .before .before .before .befo
 bare-put-bare-requires-2 : (t : ℕ) → bare-lts.Need-put-bare-requires-2 (bare-claims t) (bare-at t) bare.Post
 bare-put-bare-requires-2 t c κs = search needs
 
+bare-mode-of-requires : (t : ℕ) → bare-lts.Need-mode-of-requires (bare-claims t) (bare-at t) bare.Post
+bare-mode-of-requires t c κs = search needs
+
 bare-get-fragment-requires : (t : ℕ) → bare-lts.Need-get-fragment-requires (bare-claims t) (bare-at t) bare.Post
 bare-get-fragment-requires t c κs = search needs
 
@@ -781,14 +789,14 @@ bare-closing-requires : (t : ℕ) → bare-lts.Need-closing-requires (bare-claim
 bare-closing-requires t c κs = search needs
 
 bare-same-length : (t : ℕ) → bare-lts.Need-same-length (bare-claims t) (bare-at t) bare.Post
-bare-same-length t c = (c .before .before .closing) .kept .1 .0 ∙ (c .before .before .before .before .before .before .get-fragment) .kept .1 .0 ∙ (c .before .before .before .before .before .before .before .before .before .before .put-bare2) .kept .0 ∙ (c .before .before .before .before .before .before .before .before .before .before .before .before .before .before .before .before .before .children) .kept .1 .1 .1 .1 .0 ∙ (c .before .before .before .before .before .before .before .before .before .before .before .before .before .before .before .before .before .before .before .before .before .before .put-bare) .kept .0 ∙ (c .before .before .before .before .before .before .before .before .before .before .before .before .before .before .before .before .before .before .before .before .before .before .before .before .before .before .put-byte) .kept .0
+bare-same-length t c = (c .before .before .closing) .kept .1 .0 ∙ (c .before .before .before .before .before .before .get-fragment) .kept .1 .0 ∙ (c .before .before .before .before .before .before .before .before .before .before .before .put-bare2) .kept .0 ∙ (c .before .before .before .before .before .before .before .before .before .before .before .before .before .before .before .before .before .before .children) .kept .1 .1 .1 .1 .0 ∙ (c .before .before .before .before .before .before .before .before .before .before .before .before .before .before .before .before .before .before .before .before .before .before .before .put-bare) .kept .0 ∙ (c .before .before .before .before .before .before .before .before .before .before .before .before .before .before .before .before .before .before .before .before .before .before .before .before .before .before .before .put-byte) .kept .0
 
 bare-same-length-2 : (t : ℕ) → bare-lts.Need-same-length-2 (bare-claims t) (bare-at t) bare.Post
 bare-same-length-2 t c = search needs
 
 bare-returns : (t : ℕ) → bare-lts.Need-returns (bare-claims t) (bare-at t) bare.Post
 unfolding call.bareCode call.byteCode
-bare-returns t c = ((c .before .before .before .before .before .before .before .before .before .before .before .before .before .before .before .before .before .children) .ensures .0 .0, λ f d k u h e. bare-classic-call _ (bare-short t (c .before .before .before .before .before .before .before .before .before .before .before .before .before .before .before .before .before .before .before .before .before .before .before .before .before .before .before .before .before .before .before .before) .0) (bare-short t (c .before .before .before .before .before .before .before .before .before .before .before .before .before .before .before .before .before .before .before .before .before .before .before .before .before .before .before .before .before .before .before .before) .1) k ((c .before .before .before .before .before .before .before .before .before .before .before .before .before .before .before .before .before .before .before .before .before .before .before .before .before .before .put-byte) .ensures call.call refl) ((c .before .before .before .before .before .before .before .before .before .before .before .before .before .before .before .before .before .before .before .before .before .before .put-bare) .ensures call.null refl) ((c .before .before .before .before .before .before .before .before .before .before .before .before .before .before .before .before .before .children) .ensures .1 f d k u h e) ((c .before .before .before .before .before .before .before .before .before .before .put-bare2) .ensures call.tag refl) ((c .before .before .before .before .before .before .get-fragment) .ensures) ((c .before .before .closing) .ensures))
+bare-returns t c = ((c .before .before .before .before .before .before .before .before .before .before .before .before .before .before .before .before .before .before .children) .ensures .0 .0, λ f d k u h e. bare-classic-call _ (bare-short t (c .before .before .before .before .before .before .before .before .before .before .before .before .before .before .before .before .before .before .before .before .before .before .before .before .before .before .before .before .before .before .before .before .before) .0) (bare-short t (c .before .before .before .before .before .before .before .before .before .before .before .before .before .before .before .before .before .before .before .before .before .before .before .before .before .before .before .before .before .before .before .before .before) .1) k ((c .before .before .before .before .before .before .before .before .before .before .before .before .before .before .before .before .before .before .before .before .before .before .before .before .before .before .before .put-byte) .ensures call.call refl) ((c .before .before .before .before .before .before .before .before .before .before .before .before .before .before .before .before .before .before .before .before .before .before .before .put-bare) .ensures call.null refl) ((c .before .before .before .before .before .before .before .before .before .before .before .before .before .before .before .before .before .before .children) .ensures .1 f d k u h e) ((c .before .before .before .before .before .before .before .before .before .before .before .put-bare2) .ensures call.tag refl) (rw ((c .before .before .before .before .before .before .before .before .mode-of) .ensures) at ((c .before .before .before .before .before .before .get-fragment) .ensures)) ((c .before .before .closing) .ensures))
 
 inner-put-bare-requires : (t : ℕ) → inner-lts.Need-put-bare-requires (inner-claims t) (inner-at t) inner.Post
 inner-put-bare-requires t c κs = search needs
@@ -807,7 +815,7 @@ inner-same-length-2 t c = search needs
 
 inner-returns : (t : ℕ) → inner-lts.Need-returns (inner-claims t) (inner-at t) inner.Post
 unfolding bareCode
-inner-returns t c = (((c .before .before .before .before .before .before .before .before .before .children) .ensures .0 .0, (c .before .before .before .before .before .before .before .before .before .children) .ensures .0 .1), λ f d k u h e. object-bare (context ((c .before .before .before .before .before .before .before .before .before .before .before .before .before .before .before .before .before .before .before .before .args) .text .now) ((c .before .before .before .before .before .before .before .before .before .before .before .before .before .before .before .before .before .before .before .before .args) .settings) ((c .before .before .before .before .before .before .before .before .before .before .before .before .before .before .before .before .before .before .before .before .args) .allowed)) (omega (arith, (c .before .before .before .before .before .before .before .before .before .before .before .before .before .before .before .before .before .before .before .before))) (omega (arith, (c .before .before .before .before .before .before .before .before .before .before .before .before .before .before .before .before .before .before .before .before))) ((c .before .before .before .before .before .before .before .before .before .before .before .before .before .before .put-bare) .ensures call.childrenBegin refl) ((c .before .before .before .before .before .before .before .before .before .children) .result) ((c .before .before .before .before .before .before .before .before .before .children) .ensures .1 f d k u h e) ((c .before .before .before .before .if1) .taken) ((c .before .before .put-bare2) .ensures call.objectEnd refl))
+inner-returns t c = (((c .before .before .before .before .before .before .before .before .before .children) .ensures .0 .0, (c .before .before .before .before .before .before .before .before .before .children) .ensures .0 .1), λ f d k u h e. object-bare (context ((c .before .before .before .before .before .before .before .before .before .before .before .before .before .before .before .before .before .before .before .before .args) .text .now) ((c .before .before .before .before .before .before .before .before .before .before .before .before .before .before .before .before .before .before .before .before .args) .brief) ((c .before .before .before .before .before .before .before .before .before .before .before .before .before .before .before .before .before .before .before .before .args) .allowed)) (omega (arith, (c .before .before .before .before .before .before .before .before .before .before .before .before .before .before .before .before .before .before .before .before))) (omega (arith, (c .before .before .before .before .before .before .before .before .before .before .before .before .before .before .before .before .before .before .before .before))) ((c .before .before .before .before .before .before .before .before .before .before .before .before .before .before .put-bare) .ensures call.childrenBegin refl) ((c .before .before .before .before .before .before .before .before .before .children) .result) ((c .before .before .before .before .before .before .before .before .before .children) .ensures .1 f d k u h e) ((c .before .before .before .before .if1) .taken) ((c .before .before .put-bare2) .ensures call.objectEnd refl))
 
 inner-children-form-requires : (t : ℕ) → inner-lts.Need-children-form-requires (inner-claims t) (inner-at t) inner.Post
 inner-children-form-requires t c κs = search needs
@@ -826,7 +834,7 @@ inner-same-length-4 t c = search needs
 
 inner-returns-2 : (t : ℕ) → inner-lts.Need-returns-2 (inner-claims t) (inner-at t) inner.Post
 unfolding bareCode byteCode
-inner-returns-2 t c = (((c .before .before .before .before .before .before .before .before .before .before .before .before .before .before .before .children) .ensures .0 .0, (c .before .before .before .before .before .before .before .before .before .before .before .before .before .before .before .children) .ensures .0 .1), λ f d k u h e. object-full (context ((c .before .before .before .before .before .before .before .before .before .before .before .before .before .before .before .before .before .before .before .before .before .before .before .before .before .before .args) .text .now) ((c .before .before .before .before .before .before .before .before .before .before .before .before .before .before .before .before .before .before .before .before .before .before .before .before .before .before .args) .settings) ((c .before .before .before .before .before .before .before .before .before .before .before .before .before .before .before .before .before .before .before .before .before .before .before .before .before .before .args) .allowed)) (omega (arith, (c .before .before .before .before .before .before .before .before .before .before .before .before .before .before .before .before .before .before .before .before .before .before .before .before .before .before))) (omega (arith, (c .before .before .before .before .before .before .before .before .before .before .before .before .before .before .before .before .before .before .before .before .before .before .before .before .before .before))) ((c .before .before .before .before .before .before .before .before .before .before .before .before .before .before .before .before .before .before .before .before .put-bare) .ensures call.childrenBegin refl) ((c .before .before .before .before .before .before .before .before .before .before .before .before .before .before .before .children) .result) ((c .before .before .before .before .before .before .before .before .before .before .before .before .before .before .before .children) .ensures .1 f d k u h e) _ ((c .before .before .before .before .before .before .before .before .before .before .if1) .left) ((c .before .before .before .before .before .before .before .children-form) .ensures) ((c .before .before .before .before .before .before .put-byte) .ensures call.childrenEnd refl) ((c .before .before .put-bare3) .ensures call.objectEnd refl))
+inner-returns-2 t c = (((c .before .before .before .before .before .before .before .before .before .before .before .before .before .before .before .children) .ensures .0 .0, (c .before .before .before .before .before .before .before .before .before .before .before .before .before .before .before .children) .ensures .0 .1), λ f d k u h e. object-full (context ((c .before .before .before .before .before .before .before .before .before .before .before .before .before .before .before .before .before .before .before .before .before .before .before .before .before .before .args) .text .now) ((c .before .before .before .before .before .before .before .before .before .before .before .before .before .before .before .before .before .before .before .before .before .before .before .before .before .before .args) .brief) ((c .before .before .before .before .before .before .before .before .before .before .before .before .before .before .before .before .before .before .before .before .before .before .before .before .before .before .args) .allowed)) (omega (arith, (c .before .before .before .before .before .before .before .before .before .before .before .before .before .before .before .before .before .before .before .before .before .before .before .before .before .before))) (omega (arith, (c .before .before .before .before .before .before .before .before .before .before .before .before .before .before .before .before .before .before .before .before .before .before .before .before .before .before))) ((c .before .before .before .before .before .before .before .before .before .before .before .before .before .before .before .before .before .before .before .before .put-bare) .ensures call.childrenBegin refl) ((c .before .before .before .before .before .before .before .before .before .before .before .before .before .before .before .children) .result) ((c .before .before .before .before .before .before .before .before .before .before .before .before .before .before .before .children) .ensures .1 f d k u h e) _ ((c .before .before .before .before .before .before .before .before .before .before .if1) .left) ((c .before .before .before .before .before .before .before .children-form) .ensures) ((c .before .before .before .before .before .before .put-byte) .ensures call.childrenEnd refl) ((c .before .before .put-bare3) .ensures call.objectEnd refl))
 
 abbrev children-Inv-loop : children-lts.InvT-loop
 children-Inv-loop text settings allowed tape calls₀ notices₀ i₀ next₀ count₀ spread₀ calls notices i next count spread = KidsLeft (context text settings allowed) tape calls₀ calls notices₀ notices next₀ next i count spread
@@ -851,10 +859,10 @@ children-transform-jsx-child-requires : (t : ℕ) → children-lts.Need-transfor
 children-transform-jsx-child-requires t c κs = (omega (arith, (c .before .before .before .loop) .inv .inside, part-length ((c .before .before .before .loop) .i) ((c .before .before .before .before .before .before .before .before .args) .tape .now)), search needs)
 
 children-add-count : (t : ℕ) → children-lts.Need-add-count (children-claims t) (children-at t) children.Post children-Inv-loop children-μ-loop
-children-add-count t c = omega (arith, (c .before .before .before .before .before .before .before .before .before .before .before .before .before .before .before), kids-fit (context ((c .before .before .before .before .before .before .before .before .before .before .before .before .before .before .before .args) .text .now) ((c .before .before .before .before .before .before .before .before .before .before .before .before .before .before .before .args) .settings) ((c .before .before .before .before .before .before .before .before .before .before .before .before .before .before .before .args) .allowed)) ((c .before .before .before .before .before .before .before .before .before .before .before .before .before .before .before .args) .tape .now) ((c .before .before .before .before .before .before .before .before .before .before .loop) .inv) _ (tail-part ((c .before .before .before .before .before .before .before .before .before .before .before .before .before .before .before .args) .tape .now) ((c .before .before .before .before .before .before .before .before .before .before .loop) .i)) ((c .before .before .before .before .before .before .transform-jsx-child) .result) ((c .before .before .before .before .before .before .transform-jsx-child) .ensures .0 .0) ((c .before .before .before .before .before .before .transform-jsx-child) .ensures .0 .1))
+children-add-count t c = omega (arith, (c .before .before .before .before .before .before .before .before .before .before .before .before .before .before .before), kids-fit (context ((c .before .before .before .before .before .before .before .before .before .before .before .before .before .before .before .args) .text .now) ((c .before .before .before .before .before .before .before .before .before .before .before .before .before .before .before .args) .brief) ((c .before .before .before .before .before .before .before .before .before .before .before .before .before .before .before .args) .allowed)) ((c .before .before .before .before .before .before .before .before .before .before .before .before .before .before .before .args) .tape .now) ((c .before .before .before .before .before .before .before .before .before .before .loop) .inv) _ (tail-part ((c .before .before .before .before .before .before .before .before .before .before .before .before .before .before .before .args) .tape .now) ((c .before .before .before .before .before .before .before .before .before .before .loop) .i)) ((c .before .before .before .before .before .before .transform-jsx-child) .result) ((c .before .before .before .before .before .before .transform-jsx-child) .ensures .0 .0) ((c .before .before .before .before .before .before .transform-jsx-child) .ensures .0 .1))
 
 children-add-i : (t : ℕ) → children-lts.Need-add-i (children-claims t) (children-at t) children.Post children-Inv-loop children-μ-loop
-children-add-i t c = omega (arith, (c .before .before .before .before .before .before .before .before .before .before .before .before .before .before .before .before .before), kid-fits (context ((c .before .before .before .before .before .before .before .before .before .before .before .before .before .before .before .before .before .args) .text .now) ((c .before .before .before .before .before .before .before .before .before .before .before .before .before .before .before .before .before .args) .settings) ((c .before .before .before .before .before .before .before .before .before .before .before .before .before .before .before .before .before .args) .allowed)) ((c .before .before .before .before .before .before .before .before .before .before .before .before .before .before .before .before .before .args) .tape .now) ((c .before .before .before .before .before .before .before .before .before .before .before .before .loop) .inv) _ (tail-part ((c .before .before .before .before .before .before .before .before .before .before .before .before .before .before .before .before .before .args) .tape .now) ((c .before .before .before .before .before .before .before .before .before .before .before .before .loop) .i)) ((c .before .before .before .before .before .before .before .before .transform-jsx-child) .result) ((c .before .before .before .before .before .before .before .before .transform-jsx-child) .ensures .0 .0) ((c .before .before .before .before .before .before .before .before .transform-jsx-child) .ensures .0 .1))
+children-add-i t c = omega (arith, (c .before .before .before .before .before .before .before .before .before .before .before .before .before .before .before .before .before), kid-fits (context ((c .before .before .before .before .before .before .before .before .before .before .before .before .before .before .before .before .before .args) .text .now) ((c .before .before .before .before .before .before .before .before .before .before .before .before .before .before .before .before .before .args) .brief) ((c .before .before .before .before .before .before .before .before .before .before .before .before .before .before .before .before .before .args) .allowed)) ((c .before .before .before .before .before .before .before .before .before .before .before .before .before .before .before .before .before .args) .tape .now) ((c .before .before .before .before .before .before .before .before .before .before .before .before .loop) .inv) _ (tail-part ((c .before .before .before .before .before .before .before .before .before .before .before .before .before .before .before .before .before .args) .tape .now) ((c .before .before .before .before .before .before .before .before .before .before .before .before .loop) .i)) ((c .before .before .before .before .before .before .before .before .transform-jsx-child) .result) ((c .before .before .before .before .before .before .before .before .transform-jsx-child) .ensures .0 .0) ((c .before .before .before .before .before .before .before .before .transform-jsx-child) .ensures .0 .1))
 
 children-same-length : (t : ℕ) → children-lts.Need-same-length (children-claims t) (children-at t) children.Post children-Inv-loop children-μ-loop
 children-same-length t c = ((c .before .before .before .before .before .before .before .before .before .transform-jsx-child) .kept .1 .1 .1 .1 .0) ∙ (c .before .before .before .before .before .before .before .before .before .before .before .before .before .loop) .inv .same
@@ -863,13 +871,13 @@ children-same-length-2 : (t : ℕ) → children-lts.Need-same-length-2 (children
 children-same-length-2 t c = ((c .before .before .before .before .before .before .before .before .before .transform-jsx-child) .kept .1 .1 .1 .1 .1 .0) ∙ (c .before .before .before .before .before .before .before .before .before .before .before .before .before .loop) .inv .same′
 
 children-returns : (t : ℕ) → children-lts.Need-returns (children-claims t) (children-at t) children.Post children-Inv-loop children-μ-loop
-children-returns t c = ((kid-fits (context ((c .before .before .before .before .before .before .before .before .before .before .before .before .before .before .before .before .before .before .args) .text .now) ((c .before .before .before .before .before .before .before .before .before .before .before .before .before .before .before .before .before .before .args) .settings) ((c .before .before .before .before .before .before .before .before .before .before .before .before .before .before .before .before .before .before .args) .allowed)) ((c .before .before .before .before .before .before .before .before .before .before .before .before .before .before .before .before .before .before .args) .tape .now) ((c .before .before .before .before .before .before .before .before .before .before .before .before .before .loop) .inv) _ (tail-part ((c .before .before .before .before .before .before .before .before .before .before .before .before .before .before .before .before .before .before .args) .tape .now) ((c .before .before .before .before .before .before .before .before .before .before .before .before .before .loop) .i)) ((c .before .before .before .before .before .before .before .before .before .transform-jsx-child) .result) ((c .before .before .before .before .before .before .before .before .before .transform-jsx-child) .ensures .0 .0) ((c .before .before .before .before .before .before .before .before .before .transform-jsx-child) .ensures .0 .1), kids-fit (context ((c .before .before .before .before .before .before .before .before .before .before .before .before .before .before .before .before .before .before .args) .text .now) ((c .before .before .before .before .before .before .before .before .before .before .before .before .before .before .before .before .before .before .args) .settings) ((c .before .before .before .before .before .before .before .before .before .before .before .before .before .before .before .before .before .before .args) .allowed)) ((c .before .before .before .before .before .before .before .before .before .before .before .before .before .before .before .before .before .before .args) .tape .now) ((c .before .before .before .before .before .before .before .before .before .before .before .before .before .loop) .inv) _ (tail-part ((c .before .before .before .before .before .before .before .before .before .before .before .before .before .before .before .before .before .before .args) .tape .now) ((c .before .before .before .before .before .before .before .before .before .before .before .before .before .loop) .i)) ((c .before .before .before .before .before .before .before .before .before .transform-jsx-child) .result) ((c .before .before .before .before .before .before .before .before .before .transform-jsx-child) .ensures .0 .0) ((c .before .before .before .before .before .before .before .before .before .transform-jsx-child) .ensures .0 .1)), kids-end (context ((c .before .before .before .before .before .before .before .before .before .before .before .before .before .before .before .before .before .before .args) .text .now) ((c .before .before .before .before .before .before .before .before .before .before .before .before .before .before .before .before .before .before .args) .settings) ((c .before .before .before .before .before .before .before .before .before .before .before .before .before .before .before .before .before .before .args) .allowed)) ((c .before .before .before .before .before .before .before .before .before .before .before .before .before .before .before .before .before .before .args) .tape .now) ((c .before .before .before .before .before .before .before .before .before .before .before .before .before .loop) .inv) _ (tail-part ((c .before .before .before .before .before .before .before .before .before .before .before .before .before .before .before .before .before .before .args) .tape .now) ((c .before .before .before .before .before .before .before .before .before .before .before .before .before .loop) .i)) ((c .before .before .before .before .before .before .before .before .before .transform-jsx-child) .result) ((c .before .before .before .before .before .before .before .before .before .transform-jsx-child) .ensures .0 .0) ((c .before .before .before .before .before .before .before .before .before .transform-jsx-child) .ensures .0 .1) ((c .before .before .before .before .before .before .before .before .before .transform-jsx-child) .ensures .1) (omega (arith, (c .before .before .before .before .before .before .before .before .before .before .before .before .before .before .before .before .before .before))) (omega (arith, (c .before .before .before .before .before .before .before .before .before .before .before .before .before .before .before .before .before .before))) ((c .if1) .taken))
+children-returns t c = ((kid-fits (context ((c .before .before .before .before .before .before .before .before .before .before .before .before .before .before .before .before .before .before .args) .text .now) ((c .before .before .before .before .before .before .before .before .before .before .before .before .before .before .before .before .before .before .args) .brief) ((c .before .before .before .before .before .before .before .before .before .before .before .before .before .before .before .before .before .before .args) .allowed)) ((c .before .before .before .before .before .before .before .before .before .before .before .before .before .before .before .before .before .before .args) .tape .now) ((c .before .before .before .before .before .before .before .before .before .before .before .before .before .loop) .inv) _ (tail-part ((c .before .before .before .before .before .before .before .before .before .before .before .before .before .before .before .before .before .before .args) .tape .now) ((c .before .before .before .before .before .before .before .before .before .before .before .before .before .loop) .i)) ((c .before .before .before .before .before .before .before .before .before .transform-jsx-child) .result) ((c .before .before .before .before .before .before .before .before .before .transform-jsx-child) .ensures .0 .0) ((c .before .before .before .before .before .before .before .before .before .transform-jsx-child) .ensures .0 .1), kids-fit (context ((c .before .before .before .before .before .before .before .before .before .before .before .before .before .before .before .before .before .before .args) .text .now) ((c .before .before .before .before .before .before .before .before .before .before .before .before .before .before .before .before .before .before .args) .brief) ((c .before .before .before .before .before .before .before .before .before .before .before .before .before .before .before .before .before .before .args) .allowed)) ((c .before .before .before .before .before .before .before .before .before .before .before .before .before .before .before .before .before .before .args) .tape .now) ((c .before .before .before .before .before .before .before .before .before .before .before .before .before .loop) .inv) _ (tail-part ((c .before .before .before .before .before .before .before .before .before .before .before .before .before .before .before .before .before .before .args) .tape .now) ((c .before .before .before .before .before .before .before .before .before .before .before .before .before .loop) .i)) ((c .before .before .before .before .before .before .before .before .before .transform-jsx-child) .result) ((c .before .before .before .before .before .before .before .before .before .transform-jsx-child) .ensures .0 .0) ((c .before .before .before .before .before .before .before .before .before .transform-jsx-child) .ensures .0 .1)), kids-end (context ((c .before .before .before .before .before .before .before .before .before .before .before .before .before .before .before .before .before .before .args) .text .now) ((c .before .before .before .before .before .before .before .before .before .before .before .before .before .before .before .before .before .before .args) .brief) ((c .before .before .before .before .before .before .before .before .before .before .before .before .before .before .before .before .before .before .args) .allowed)) ((c .before .before .before .before .before .before .before .before .before .before .before .before .before .before .before .before .before .before .args) .tape .now) ((c .before .before .before .before .before .before .before .before .before .before .before .before .before .loop) .inv) _ (tail-part ((c .before .before .before .before .before .before .before .before .before .before .before .before .before .before .before .before .before .before .args) .tape .now) ((c .before .before .before .before .before .before .before .before .before .before .before .before .before .loop) .i)) ((c .before .before .before .before .before .before .before .before .before .transform-jsx-child) .result) ((c .before .before .before .before .before .before .before .before .before .transform-jsx-child) .ensures .0 .0) ((c .before .before .before .before .before .before .before .before .before .transform-jsx-child) .ensures .0 .1) ((c .before .before .before .before .before .before .before .before .before .transform-jsx-child) .ensures .1) (omega (arith, (c .before .before .before .before .before .before .before .before .before .before .before .before .before .before .before .before .before .before))) (omega (arith, (c .before .before .before .before .before .before .before .before .before .before .before .before .before .before .before .before .before .before))) ((c .if1) .taken))
 
 children-loop-less : (t : ℕ) → children-lts.Need-loop-less (children-claims t) (children-at t) children.Post children-Inv-loop children-μ-loop
-children-loop-less t c = omega (arith, kid-fits (context ((c .before .before .before .before .before .before .before .before .before .before .before .before .before .before .before .before .before .before .args) .text .now) ((c .before .before .before .before .before .before .before .before .before .before .before .before .before .before .before .before .before .before .args) .settings) ((c .before .before .before .before .before .before .before .before .before .before .before .before .before .before .before .before .before .before .args) .allowed)) ((c .before .before .before .before .before .before .before .before .before .before .before .before .before .before .before .before .before .before .args) .tape .now) ((c .before .before .before .before .before .before .before .before .before .before .before .before .before .loop) .inv) _ (tail-part ((c .before .before .before .before .before .before .before .before .before .before .before .before .before .before .before .before .before .before .args) .tape .now) ((c .before .before .before .before .before .before .before .before .before .before .before .before .before .loop) .i)) ((c .before .before .before .before .before .before .before .before .before .transform-jsx-child) .result) ((c .before .before .before .before .before .before .before .before .before .transform-jsx-child) .ensures .0 .0) ((c .before .before .before .before .before .before .before .before .before .transform-jsx-child) .ensures .0 .1), (c .before .before .before .before .before .before .before .before .before .transform-jsx-child) .ensures .0 .0 .onward ((c .if1) .left))
+children-loop-less t c = omega (arith, kid-fits (context ((c .before .before .before .before .before .before .before .before .before .before .before .before .before .before .before .before .before .before .args) .text .now) ((c .before .before .before .before .before .before .before .before .before .before .before .before .before .before .before .before .before .before .args) .brief) ((c .before .before .before .before .before .before .before .before .before .before .before .before .before .before .before .before .before .before .args) .allowed)) ((c .before .before .before .before .before .before .before .before .before .before .before .before .before .before .before .before .before .before .args) .tape .now) ((c .before .before .before .before .before .before .before .before .before .before .before .before .before .loop) .inv) _ (tail-part ((c .before .before .before .before .before .before .before .before .before .before .before .before .before .before .before .before .before .before .args) .tape .now) ((c .before .before .before .before .before .before .before .before .before .before .before .before .before .loop) .i)) ((c .before .before .before .before .before .before .before .before .before .transform-jsx-child) .result) ((c .before .before .before .before .before .before .before .before .before .transform-jsx-child) .ensures .0 .0) ((c .before .before .before .before .before .before .before .before .before .transform-jsx-child) .ensures .0 .1), (c .before .before .before .before .before .before .before .before .before .transform-jsx-child) .ensures .0 .0 .onward ((c .if1) .left))
 
 children-loop-again : (t : ℕ) → children-lts.Need-loop-again (children-claims t) (children-at t) children.Post children-Inv-loop children-μ-loop
-children-loop-again t c = kids-go (context ((c .before .before .before .before .before .before .before .before .before .before .before .before .before .before .before .before .before .before .args) .text .now) ((c .before .before .before .before .before .before .before .before .before .before .before .before .before .before .before .before .before .before .args) .settings) ((c .before .before .before .before .before .before .before .before .before .before .before .before .before .before .before .before .before .before .args) .allowed)) ((c .before .before .before .before .before .before .before .before .before .before .before .before .before .before .before .before .before .before .args) .tape .now) ((c .before .before .before .before .before .before .before .before .before .before .before .before .before .loop) .inv) _ (tail-part ((c .before .before .before .before .before .before .before .before .before .before .before .before .before .before .before .before .before .before .args) .tape .now) ((c .before .before .before .before .before .before .before .before .before .before .before .before .before .loop) .i)) ((c .before .before .before .before .before .before .before .before .before .transform-jsx-child) .result) ((c .before .before .before .before .before .before .before .before .before .transform-jsx-child) .ensures .0 .0) ((c .before .before .before .before .before .before .before .before .before .transform-jsx-child) .ensures .0 .1) ((c .before .before .before .before .before .before .before .before .before .transform-jsx-child) .ensures .1) (omega (arith, (c .before .before .before .before .before .before .before .before .before .before .before .before .before .before .before .before .before .before))) (omega (arith, (c .before .before .before .before .before .before .before .before .before .before .before .before .before .before .before .before .before .before))) ((c .before .before .before .before .before .before .before .before .before .transform-jsx-child) .kept .1 .1 .1 .1 .0) ((c .before .before .before .before .before .before .before .before .before .transform-jsx-child) .kept .1 .1 .1 .1 .1 .0) ((c .if1) .left)
+children-loop-again t c = kids-go (context ((c .before .before .before .before .before .before .before .before .before .before .before .before .before .before .before .before .before .before .args) .text .now) ((c .before .before .before .before .before .before .before .before .before .before .before .before .before .before .before .before .before .before .args) .brief) ((c .before .before .before .before .before .before .before .before .before .before .before .before .before .before .before .before .before .before .args) .allowed)) ((c .before .before .before .before .before .before .before .before .before .before .before .before .before .before .before .before .before .before .args) .tape .now) ((c .before .before .before .before .before .before .before .before .before .before .before .before .before .loop) .inv) _ (tail-part ((c .before .before .before .before .before .before .before .before .before .before .before .before .before .before .before .before .before .before .args) .tape .now) ((c .before .before .before .before .before .before .before .before .before .before .before .before .before .loop) .i)) ((c .before .before .before .before .before .before .before .before .before .transform-jsx-child) .result) ((c .before .before .before .before .before .before .before .before .before .transform-jsx-child) .ensures .0 .0) ((c .before .before .before .before .before .before .before .before .before .transform-jsx-child) .ensures .0 .1) ((c .before .before .before .before .before .before .before .before .before .transform-jsx-child) .ensures .1) (omega (arith, (c .before .before .before .before .before .before .before .before .before .before .before .before .before .before .before .before .before .before))) (omega (arith, (c .before .before .before .before .before .before .before .before .before .before .before .before .before .before .before .before .before .before))) ((c .before .before .before .before .before .before .before .before .before .transform-jsx-child) .kept .1 .1 .1 .1 .0) ((c .before .before .before .before .before .before .before .before .before .transform-jsx-child) .kept .1 .1 .1 .1 .1 .0) ((c .if1) .left)
 
 create-short : (t : ℕ) (c : create-lts.Start (create-claims t) (create-at t) create.Post)
     → (length (c .args .calls .now) ≤ 2 ^ 63) × (length (c .args .notices .now) ≤ 2 ^ 63) × (length (c .args .tape .now) ≤ 2 ^ 63)
@@ -1052,12 +1060,15 @@ plain-same-length-2 t c = search needs
 plain-returns : (t : ℕ) → plain-lts.Need-returns (plain-claims t) (plain-at t) plain.Post
 plain-returns t c = ((c .before .before .before .before .behind) .ensures .0, plain-written _ ((c .before .before .before .before .before .before .before .before .before .before .before .before .before .before .before .before .before .before .before .before .args) .tape .now) _ (plain-short t (c .before .before .before .before .before .before .before .before .before .before .before .before .before .before .before .before .before .before .before .before) .0) (plain-short t (c .before .before .before .before .before .before .before .before .before .before .before .before .before .before .before .before .before .before .before .before) .1) ((c .before .before .before .before .before .before .before .before .before .before .before .before .before .key-notice) .ensures) ((c .before .before .before .before .before .before .before .before .before .get-attribute-name) .ensures) ((c .before .before .before .before .behind) .ensures .1))
 
+fragment-mode-of-requires : (t : ℕ) → fragment-lts.Need-mode-of-requires (fragment-claims t) (fragment-at t) fragment.Post
+fragment-mode-of-requires t c κs = search needs
+
 fragment-is-classic-requires : (t : ℕ) → fragment-lts.Need-is-classic-requires (fragment-claims t) (fragment-at t) fragment.Post
 fragment-is-classic-requires t c κs = search needs
 
 fragment-bare-requires :
     (t : ℕ) → fragment-lts.Need-bare-requires (fragment-claims t) (fragment-at t) fragment.Post
-fragment-bare-requires t c κs = (omega (arith, c .before .before .before .before .before .before .before .before .pre .0), c .before .before .before .before .before .before .before .before .pre .1)
+fragment-bare-requires t c κs = (omega (arith, c .before .before .before .before .before .before .before .before .before .pre .0), c .before .before .before .before .before .before .before .before .before .pre .1)
 
 fragment-same-length : (t : ℕ) → fragment-lts.Need-same-length (fragment-claims t) (fragment-at t) fragment.Post
 fragment-same-length t c = search needs
@@ -1066,11 +1077,11 @@ fragment-same-length-2 : (t : ℕ) → fragment-lts.Need-same-length-2 (fragment
 fragment-same-length-2 t c = search needs
 
 fragment-returns : (t : ℕ) → fragment-lts.Need-returns (fragment-claims t) (fragment-at t) fragment.Post
-fragment-returns t c = ((c .before .before .before .before .bare) .ensures .0, λ f d place n u h e. fragment-lowered-classic _ _ f d place n u h e (told ((c .before .before .before .before .before .before .before .before .is-classic) .ensures) ((c .before .before .before .before .before .before .before .if1) .taken)) ((c .before .before .before .before .bare) .ensures .1))
+fragment-returns t c = ((c .before .before .before .before .bare) .ensures .0, λ f d place n u h e. fragment-lowered-classic _ _ f d place n u h e (ap isClassic (sym ((c .before .before .before .before .before .before .before .before .before .mode-of) .ensures)) ∙ told ((c .before .before .before .before .before .before .before .before .is-classic) .ensures) ((c .before .before .before .before .before .before .before .if1) .taken)) ((c .before .before .before .before .bare) .ensures .1))
 
 fragment-bare-auto-requires :
     (t : ℕ) → fragment-lts.Need-bare-auto-requires (fragment-claims t) (fragment-at t) fragment.Post
-fragment-bare-auto-requires t c κs = (omega (arith, c .before .before .before .before .before .before .before .before .pre .0), c .before .before .before .before .before .before .before .before .pre .1)
+fragment-bare-auto-requires t c κs = (omega (arith, c .before .before .before .before .before .before .before .before .before .pre .0), c .before .before .before .before .before .before .before .before .before .pre .1)
 
 fragment-same-length-3 : (t : ℕ) → fragment-lts.Need-same-length-3 (fragment-claims t) (fragment-at t) fragment.Post
 fragment-same-length-3 t c = search needs
@@ -1079,7 +1090,7 @@ fragment-same-length-4 : (t : ℕ) → fragment-lts.Need-same-length-4 (fragment
 fragment-same-length-4 t c = search needs
 
 fragment-returns-2 : (t : ℕ) → fragment-lts.Need-returns-2 (fragment-claims t) (fragment-at t) fragment.Post
-fragment-returns-2 t c = ((c .before .before .before .before .bare-auto) .ensures .0, λ f d place n u h e. fragment-lowered-automatic _ _ f d place n u h e (told ((c .before .before .before .before .before .before .before .before .is-classic) .ensures) ((c .before .before .before .before .before .before .before .if1) .left)) ((c .before .before .before .before .bare-auto) .ensures .1))
+fragment-returns-2 t c = ((c .before .before .before .before .bare-auto) .ensures .0, λ f d place n u h e. fragment-lowered-automatic _ _ f d place n u h e (ap isClassic (sym ((c .before .before .before .before .before .before .before .before .before .mode-of) .ensures)) ∙ told ((c .before .before .before .before .before .before .before .before .is-classic) .ensures) ((c .before .before .before .before .before .before .before .if1) .left)) ((c .before .before .before .before .bare-auto) .ensures .1))
 
 transform-jsx-skip-name-requires : (t : ℕ) → transform-jsx-lts.Need-skip-name-requires (transform-jsx-claims t) (transform-jsx-at t) transform-jsx.Post
 transform-jsx-skip-name-requires t c κs = search needs
@@ -1219,7 +1230,7 @@ transform-jsx-attribute-value-same-length t c = search needs
 
 transform-jsx-attribute-value-returns : (t : ℕ) → transform-jsx-attribute-value-lts.Need-returns (transform-jsx-attribute-value-claims t) (transform-jsx-attribute-value-at t) transform-jsx-attribute-value.Post
 unfolding bareCode
-transform-jsx-attribute-value-returns t c = (value-fits _ (told ((c .before .before .before .before .before .before .value-command-at) .ensures) ((c .before .before .before .before .enum-told) .given .1)), λ f d v u h e. absent-written (context ((c .before .before .before .before .before .before .before .before .before .before .before .args) .text .now) ((c .before .before .before .before .before .before .before .before .before .before .before .args) .settings) ((c .before .before .before .before .before .before .before .before .before .before .before .args) .allowed)) _ _ f d v u e ((c .before .before .before .before .before .before .before .before .before .before .before .args) .notices .now) (told ((c .before .before .before .before .before .before .value-command-at) .ensures) ((c .before .before .before .before .enum-told) .given .1)) ((c .before .before .put-bare) .ensures call.literalTrue refl))
+transform-jsx-attribute-value-returns t c = (value-fits _ (told ((c .before .before .before .before .before .before .value-command-at) .ensures) ((c .before .before .before .before .enum-told) .given .1)), λ f d v u h e. absent-written (context ((c .before .before .before .before .before .before .before .before .before .before .before .args) .text .now) ((c .before .before .before .before .before .before .before .before .before .before .before .args) .brief) ((c .before .before .before .before .before .before .before .before .before .before .before .args) .allowed)) _ _ f d v u e ((c .before .before .before .before .before .before .before .before .before .before .before .args) .notices .now) (told ((c .before .before .before .before .before .before .value-command-at) .ensures) ((c .before .before .before .before .enum-told) .given .1)) ((c .before .before .put-bare) .ensures call.literalTrue refl))
 
 transform-jsx-attribute-value-same-length-2 :
     (t : ℕ) → transform-jsx-attribute-value-lts.Need-same-length-2 (transform-jsx-attribute-value-claims t) (transform-jsx-attribute-value-at t) transform-jsx-attribute-value.Post
@@ -1227,7 +1238,7 @@ transform-jsx-attribute-value-same-length-2 t c = search needs
 
 transform-jsx-attribute-value-returns-2 :
     (t : ℕ) → transform-jsx-attribute-value-lts.Need-returns-2 (transform-jsx-attribute-value-claims t) (transform-jsx-attribute-value-at t) transform-jsx-attribute-value.Post
-transform-jsx-attribute-value-returns-2 t c = (value-fits _ (told ((c .before .before .before .before .before .before .before .value-command-at) .ensures) ((c .before .before .before .before .before .command) .given .1)), λ f d v u h e. text-written (context ((c .before .before .before .before .before .before .before .before .before .before .before .before .args) .text .now) ((c .before .before .before .before .before .before .before .before .before .before .before .before .args) .settings) ((c .before .before .before .before .before .before .before .before .before .before .before .before .args) .allowed)) _ _ f d v u e ((c .before .before .before .before .before .before .before .before .before .before .before .before .args) .notices .now) _ (told ((c .before .before .before .before .before .before .before .value-command-at) .ensures) ((c .before .before .before .before .before .command) .given .1)) ((c .before .before .put-string) .ensures))
+transform-jsx-attribute-value-returns-2 t c = (value-fits _ (told ((c .before .before .before .before .before .before .before .value-command-at) .ensures) ((c .before .before .before .before .before .command) .given .1)), λ f d v u h e. text-written (context ((c .before .before .before .before .before .before .before .before .before .before .before .before .args) .text .now) ((c .before .before .before .before .before .before .before .before .before .before .before .before .args) .brief) ((c .before .before .before .before .before .before .before .before .before .before .before .before .args) .allowed)) _ _ f d v u e ((c .before .before .before .before .before .before .before .before .before .before .before .before .args) .notices .now) _ (told ((c .before .before .before .before .before .before .before .value-command-at) .ensures) ((c .before .before .before .before .before .command) .given .1)) ((c .before .before .put-string) .ensures))
 
 transform-jsx-attribute-value-same-length-3 :
     (t : ℕ) → transform-jsx-attribute-value-lts.Need-same-length-3 (transform-jsx-attribute-value-claims t) (transform-jsx-attribute-value-at t) transform-jsx-attribute-value.Post
@@ -1236,7 +1247,7 @@ transform-jsx-attribute-value-same-length-3 t c = search needs
 transform-jsx-attribute-value-returns-3 :
     (t : ℕ) → transform-jsx-attribute-value-lts.Need-returns-3 (transform-jsx-attribute-value-claims t) (transform-jsx-attribute-value-at t) transform-jsx-attribute-value.Post
 unfolding expressionCode
-transform-jsx-attribute-value-returns-3 t c = (value-fits _ (told ((c .before .before .before .before .before .before .before .value-command-at) .ensures) ((c .before .before .before .before .before .command2) .given .1)), λ f d v u h e. expression-written (context ((c .before .before .before .before .before .before .before .before .before .before .before .before .args) .text .now) ((c .before .before .before .before .before .before .before .before .before .before .before .before .args) .settings) ((c .before .before .before .before .before .before .before .before .before .before .before .before .args) .allowed)) _ _ f d v u e ((c .before .before .before .before .before .before .before .before .before .before .before .before .args) .notices .now) _ (told ((c .before .before .before .before .before .before .before .value-command-at) .ensures) ((c .before .before .before .before .before .command2) .given .1)) ((c .before .before .put-over) .ensures call.expression refl))
+transform-jsx-attribute-value-returns-3 t c = (value-fits _ (told ((c .before .before .before .before .before .before .before .value-command-at) .ensures) ((c .before .before .before .before .before .command2) .given .1)), λ f d v u h e. expression-written (context ((c .before .before .before .before .before .before .before .before .before .before .before .before .args) .text .now) ((c .before .before .before .before .before .before .before .before .before .before .before .before .args) .brief) ((c .before .before .before .before .before .before .before .before .before .before .before .before .args) .allowed)) _ _ f d v u e ((c .before .before .before .before .before .before .before .before .before .before .before .before .args) .notices .now) _ (told ((c .before .before .before .before .before .before .before .value-command-at) .ensures) ((c .before .before .before .before .before .command2) .given .1)) ((c .before .before .put-over) .ensures call.expression refl))
 
 transform-jsx-attribute-value-same-length-4 :
     (t : ℕ) → transform-jsx-attribute-value-lts.Need-same-length-4 (transform-jsx-attribute-value-claims t) (transform-jsx-attribute-value-at t) transform-jsx-attribute-value.Post
@@ -1245,7 +1256,7 @@ transform-jsx-attribute-value-same-length-4 t c = search needs
 transform-jsx-attribute-value-returns-4 :
     (t : ℕ) → transform-jsx-attribute-value-lts.Need-returns-4 (transform-jsx-attribute-value-claims t) (transform-jsx-attribute-value-at t) transform-jsx-attribute-value.Post
 unfolding bareCode
-transform-jsx-attribute-value-returns-4 t c = (value-fits _ (told ((c .before .before .before .before .before .before .value-command-at) .ensures) ((c .before .before .before .before .enum-told2) .given .1)), λ f d v u h e. empty-written (context ((c .before .before .before .before .before .before .before .before .before .before .before .args) .text .now) ((c .before .before .before .before .before .before .before .before .before .before .before .args) .settings) ((c .before .before .before .before .before .before .before .before .before .before .before .args) .allowed)) _ _ f d v u e ((c .before .before .before .before .before .before .before .before .before .before .before .args) .notices .now) (told ((c .before .before .before .before .before .before .value-command-at) .ensures) ((c .before .before .before .before .enum-told2) .given .1)) ((c .before .before .put-bare2) .ensures call.literalTrue refl))
+transform-jsx-attribute-value-returns-4 t c = (value-fits _ (told ((c .before .before .before .before .before .before .value-command-at) .ensures) ((c .before .before .before .before .enum-told2) .given .1)), λ f d v u h e. empty-written (context ((c .before .before .before .before .before .before .before .before .before .before .before .args) .text .now) ((c .before .before .before .before .before .before .before .before .before .before .before .args) .brief) ((c .before .before .before .before .before .before .before .before .before .before .before .args) .allowed)) _ _ f d v u e ((c .before .before .before .before .before .before .before .before .before .before .before .args) .notices .now) (told ((c .before .before .before .before .before .before .value-command-at) .ensures) ((c .before .before .before .before .enum-told2) .given .1)) ((c .before .before .put-bare2) .ensures call.literalTrue refl))
 
 transform-jsx-attribute-value-same-length-5 :
     (t : ℕ) → transform-jsx-attribute-value-lts.Need-same-length-5 (transform-jsx-attribute-value-claims t) (transform-jsx-attribute-value-at t) transform-jsx-attribute-value.Post
@@ -1257,7 +1268,7 @@ transform-jsx-attribute-value-same-length-6 t c = search needs
 
 transform-jsx-attribute-value-returns-5 :
     (t : ℕ) → transform-jsx-attribute-value-lts.Need-returns-5 (transform-jsx-attribute-value-claims t) (transform-jsx-attribute-value-at t) transform-jsx-attribute-value.Post
-transform-jsx-attribute-value-returns-5 t c = (omega (arith, value-fits _ (told ((c .before .before .before .before .before .before .before .before .before .before .before .before .before .value-command-at) .ensures) ((c .before .before .before .before .before .before .before .before .before .before .before .command3) .given .1)), (c .before .before .before .before .before .before .transform-jsx) .ensures .0, part-length 9 ((c .before .before .before .before .before .before .before .before .before .before .before .before .before .before .before .before .before .before .args) .tape .now)), value-element-written (context ((c .before .before .before .before .before .before .before .before .before .before .before .before .before .before .before .before .before .before .args) .text .now) ((c .before .before .before .before .before .before .before .before .before .before .before .before .before .before .before .before .before .before .args) .settings) ((c .before .before .before .before .before .before .before .before .before .before .before .before .before .before .before .before .before .before .args) .allowed)) ((c .before .before .before .before .before .before .before .before .before .before .before .before .before .before .before .before .before .before .args) .tape .now) _ (tail-part ((c .before .before .before .before .before .before .before .before .before .before .before .before .before .before .before .before .before .before .args) .tape .now) 9) (value-fits _ (told ((c .before .before .before .before .before .before .before .before .before .before .before .before .before .value-command-at) .ensures) ((c .before .before .before .before .before .before .before .before .before .before .before .command3) .given .1))) ((c .before .before .before .before .before .before .before .before .before .before .before .command3) .given .0 .0) (told ((c .before .before .before .before .before .before .before .before .before .before .before .before .before .value-command-at) .ensures) ((c .before .before .before .before .before .before .before .before .before .before .before .command3) .given .1)) (search needs) (search needs) ((c .before .before .before .before .before .before .transform-jsx) .ensures .1))
+transform-jsx-attribute-value-returns-5 t c = (omega (arith, value-fits _ (told ((c .before .before .before .before .before .before .before .before .before .before .before .before .before .value-command-at) .ensures) ((c .before .before .before .before .before .before .before .before .before .before .before .command3) .given .1)), (c .before .before .before .before .before .before .transform-jsx) .ensures .0, part-length 9 ((c .before .before .before .before .before .before .before .before .before .before .before .before .before .before .before .before .before .before .args) .tape .now)), value-element-written (context ((c .before .before .before .before .before .before .before .before .before .before .before .before .before .before .before .before .before .before .args) .text .now) ((c .before .before .before .before .before .before .before .before .before .before .before .before .before .before .before .before .before .before .args) .brief) ((c .before .before .before .before .before .before .before .before .before .before .before .before .before .before .before .before .before .before .args) .allowed)) ((c .before .before .before .before .before .before .before .before .before .before .before .before .before .before .before .before .before .before .args) .tape .now) _ (tail-part ((c .before .before .before .before .before .before .before .before .before .before .before .before .before .before .before .before .before .before .args) .tape .now) 9) (value-fits _ (told ((c .before .before .before .before .before .before .before .before .before .before .before .before .before .value-command-at) .ensures) ((c .before .before .before .before .before .before .before .before .before .before .before .command3) .given .1))) ((c .before .before .before .before .before .before .before .before .before .before .before .command3) .given .0 .0) (told ((c .before .before .before .before .before .before .before .before .before .before .before .before .before .value-command-at) .ensures) ((c .before .before .before .before .before .before .before .before .before .before .before .command3) .given .1)) (search needs) (search needs) ((c .before .before .before .before .before .before .transform-jsx) .ensures .1))
 
 transform-jsx-attribute-value-same-length-7 :
     (t : ℕ) → transform-jsx-attribute-value-lts.Need-same-length-7 (transform-jsx-attribute-value-claims t) (transform-jsx-attribute-value-at t) transform-jsx-attribute-value.Post
@@ -1269,7 +1280,7 @@ transform-jsx-attribute-value-same-length-8 t c = search needs
 
 transform-jsx-attribute-value-returns-6 :
     (t : ℕ) → transform-jsx-attribute-value-lts.Need-returns-6 (transform-jsx-attribute-value-claims t) (transform-jsx-attribute-value-at t) transform-jsx-attribute-value.Post
-transform-jsx-attribute-value-returns-6 t c = (omega (arith, value-fits _ (told ((c .before .before .before .before .before .before .before .before .before .before .before .before .value-command-at) .ensures) ((c .before .before .before .before .before .before .before .before .before .before .enum-told3) .given .1)), (c .before .before .before .before .before .before .fragment) .ensures .0, part-length 9 ((c .before .before .before .before .before .before .before .before .before .before .before .before .before .before .before .before .before .args) .tape .now)), value-fragment-written (context ((c .before .before .before .before .before .before .before .before .before .before .before .before .before .before .before .before .before .args) .text .now) ((c .before .before .before .before .before .before .before .before .before .before .before .before .before .before .before .before .before .args) .settings) ((c .before .before .before .before .before .before .before .before .before .before .before .before .before .before .before .before .before .args) .allowed)) ((c .before .before .before .before .before .before .before .before .before .before .before .before .before .before .before .before .before .args) .tape .now) _ (tail-part ((c .before .before .before .before .before .before .before .before .before .before .before .before .before .before .before .before .before .args) .tape .now) 9) (value-fits _ (told ((c .before .before .before .before .before .before .before .before .before .before .before .before .value-command-at) .ensures) ((c .before .before .before .before .before .before .before .before .before .before .enum-told3) .given .1))) _ (told ((c .before .before .before .before .before .before .before .before .before .before .before .before .value-command-at) .ensures) ((c .before .before .before .before .before .before .before .before .before .before .enum-told3) .given .1)) ((c .before .before .before .before .before .before .fragment) .ensures .1))
+transform-jsx-attribute-value-returns-6 t c = (omega (arith, value-fits _ (told ((c .before .before .before .before .before .before .before .before .before .before .before .before .value-command-at) .ensures) ((c .before .before .before .before .before .before .before .before .before .before .enum-told3) .given .1)), (c .before .before .before .before .before .before .fragment) .ensures .0, part-length 9 ((c .before .before .before .before .before .before .before .before .before .before .before .before .before .before .before .before .before .args) .tape .now)), value-fragment-written (context ((c .before .before .before .before .before .before .before .before .before .before .before .before .before .before .before .before .before .args) .text .now) ((c .before .before .before .before .before .before .before .before .before .before .before .before .before .before .before .before .before .args) .brief) ((c .before .before .before .before .before .before .before .before .before .before .before .before .before .before .before .before .before .args) .allowed)) ((c .before .before .before .before .before .before .before .before .before .before .before .before .before .before .before .before .before .args) .tape .now) _ (tail-part ((c .before .before .before .before .before .before .before .before .before .before .before .before .before .before .before .before .before .args) .tape .now) 9) (value-fits _ (told ((c .before .before .before .before .before .before .before .before .before .before .before .before .value-command-at) .ensures) ((c .before .before .before .before .before .before .before .before .before .before .enum-told3) .given .1))) _ (told ((c .before .before .before .before .before .before .before .before .before .before .before .before .value-command-at) .ensures) ((c .before .before .before .before .before .before .before .before .before .before .enum-told3) .given .1)) ((c .before .before .before .before .before .before .fragment) .ensures .1))
 
 transform-jsx-attribute-value-returns-7 :
     (t : ℕ) → transform-jsx-attribute-value-lts.Need-returns-7 (transform-jsx-attribute-value-claims t) (transform-jsx-attribute-value-at t) transform-jsx-attribute-value.Post
@@ -1365,24 +1376,24 @@ transform-jsx-child-same-length : (t : ℕ) → transform-jsx-child-lts.Need-sam
 transform-jsx-child-same-length t c = search needs
 
 transform-jsx-child-returns : (t : ℕ) → transform-jsx-child-lts.Need-returns (transform-jsx-child-claims t) (transform-jsx-child-at t) transform-jsx-child.Post
-transform-jsx-child-returns t c = ((record { inside = omega (arith, child-fits _ (told ((c .before .before .before .before .before .before .before .child-command-at) .ensures) ((c .before .before .before .before .before .command) .given .1)), (c .before .before .transform-jsx-text) .ensures .0 .used); onward = λ l. omega (arith, (c .before .before .transform-jsx-text) .ensures .0 .used) }, omega (arith, (c .before .before .transform-jsx-text) .ensures .0 .few, (c .before .before .transform-jsx-text) .ensures .0 .used)), λ f d k u h e. child-text (context ((c .before .before .before .before .before .before .before .before .before .before .before .before .args) .text .now) ((c .before .before .before .before .before .before .before .before .before .before .before .before .args) .settings) ((c .before .before .before .before .before .before .before .before .before .before .before .before .args) .allowed)) ((c .before .before .before .before .before .before .before .before .before .before .before .before .args) .tape .now) ((c .before .before .before .before .before .before .before .before .before .before .before .before .args) .notices .now) _ _ (told ((c .before .before .before .before .before .before .before .child-command-at) .ensures) ((c .before .before .before .before .before .command) .given .1)) ((c .before .before .transform-jsx-text) .ensures .0) ((c .before .before .transform-jsx-text) .ensures .1) f d k u e)
+transform-jsx-child-returns t c = ((record { inside = omega (arith, child-fits _ (told ((c .before .before .before .before .before .before .before .child-command-at) .ensures) ((c .before .before .before .before .before .command) .given .1)), (c .before .before .transform-jsx-text) .ensures .0 .used); onward = λ l. omega (arith, (c .before .before .transform-jsx-text) .ensures .0 .used) }, omega (arith, (c .before .before .transform-jsx-text) .ensures .0 .few, (c .before .before .transform-jsx-text) .ensures .0 .used)), λ f d k u h e. child-text (context ((c .before .before .before .before .before .before .before .before .before .before .before .before .args) .text .now) ((c .before .before .before .before .before .before .before .before .before .before .before .before .args) .brief) ((c .before .before .before .before .before .before .before .before .before .before .before .before .args) .allowed)) ((c .before .before .before .before .before .before .before .before .before .before .before .before .args) .tape .now) ((c .before .before .before .before .before .before .before .before .before .before .before .before .args) .notices .now) _ _ (told ((c .before .before .before .before .before .before .before .child-command-at) .ensures) ((c .before .before .before .before .before .command) .given .1)) ((c .before .before .transform-jsx-text) .ensures .0) ((c .before .before .transform-jsx-text) .ensures .1) f d k u e)
 
 transform-jsx-child-same-length-2 : (t : ℕ) → transform-jsx-child-lts.Need-same-length-2 (transform-jsx-child-claims t) (transform-jsx-child-at t) transform-jsx-child.Post
 transform-jsx-child-same-length-2 t c = search needs
 
 transform-jsx-child-returns-2 : (t : ℕ) → transform-jsx-child-lts.Need-returns-2 (transform-jsx-child-claims t) (transform-jsx-child-at t) transform-jsx-child.Post
 unfolding expressionCode
-transform-jsx-child-returns-2 t c = ((record { inside = child-fits _ (told ((c .before .before .before .before .before .before .before .child-command-at) .ensures) ((c .before .before .before .before .before .command2) .given .1)); onward = λ l. omega arith }, omega arith), λ f d k u h e. child-expression (context ((c .before .before .before .before .before .before .before .before .before .before .before .before .args) .text .now) ((c .before .before .before .before .before .before .before .before .before .before .before .before .args) .settings) ((c .before .before .before .before .before .before .before .before .before .before .before .before .args) .allowed)) ((c .before .before .before .before .before .before .before .before .before .before .before .before .args) .tape .now) ((c .before .before .before .before .before .before .before .before .before .before .before .before .args) .notices .now) _ (told ((c .before .before .before .before .before .before .before .child-command-at) .ensures) ((c .before .before .before .before .before .command2) .given .1)) ((c .before .before .put-over) .ensures call.expression refl) f d k u e)
+transform-jsx-child-returns-2 t c = ((record { inside = child-fits _ (told ((c .before .before .before .before .before .before .before .child-command-at) .ensures) ((c .before .before .before .before .before .command2) .given .1)); onward = λ l. omega arith }, omega arith), λ f d k u h e. child-expression (context ((c .before .before .before .before .before .before .before .before .before .before .before .before .args) .text .now) ((c .before .before .before .before .before .before .before .before .before .before .before .before .args) .brief) ((c .before .before .before .before .before .before .before .before .before .before .before .before .args) .allowed)) ((c .before .before .before .before .before .before .before .before .before .before .before .before .args) .tape .now) ((c .before .before .before .before .before .before .before .before .before .before .before .before .args) .notices .now) _ (told ((c .before .before .before .before .before .before .before .child-command-at) .ensures) ((c .before .before .before .before .before .command2) .given .1)) ((c .before .before .put-over) .ensures call.expression refl) f d k u e)
 
 transform-jsx-child-returns-3 : (t : ℕ) → transform-jsx-child-lts.Need-returns-3 (transform-jsx-child-claims t) (transform-jsx-child-at t) transform-jsx-child.Post
-transform-jsx-child-returns-3 t c = ((record { inside = child-fits _ (told ((c .before .before .child-command-at) .ensures) ((c .enum-told) .given .1)); onward = λ l. omega arith }, omega arith), λ f d k u h e. child-empty (context ((c .before .before .before .before .before .before .before .args) .text .now) ((c .before .before .before .before .before .before .before .args) .settings) ((c .before .before .before .before .before .before .before .args) .allowed)) ((c .before .before .before .before .before .before .before .args) .tape .now) ((c .before .before .before .before .before .before .before .args) .calls .now) ((c .before .before .before .before .before .before .before .args) .notices .now) _ (told ((c .before .before .child-command-at) .ensures) ((c .enum-told) .given .1)) f d k u e)
+transform-jsx-child-returns-3 t c = ((record { inside = child-fits _ (told ((c .before .before .child-command-at) .ensures) ((c .enum-told) .given .1)); onward = λ l. omega arith }, omega arith), λ f d k u h e. child-empty (context ((c .before .before .before .before .before .before .before .args) .text .now) ((c .before .before .before .before .before .before .before .args) .brief) ((c .before .before .before .before .before .before .before .args) .allowed)) ((c .before .before .before .before .before .before .before .args) .tape .now) ((c .before .before .before .before .before .before .before .args) .calls .now) ((c .before .before .before .before .before .before .before .args) .notices .now) _ (told ((c .before .before .child-command-at) .ensures) ((c .enum-told) .given .1)) f d k u e)
 
 transform-jsx-child-same-length-3 : (t : ℕ) → transform-jsx-child-lts.Need-same-length-3 (transform-jsx-child-claims t) (transform-jsx-child-at t) transform-jsx-child.Post
 transform-jsx-child-same-length-3 t c = search needs
 
 transform-jsx-child-returns-4 : (t : ℕ) → transform-jsx-child-lts.Need-returns-4 (transform-jsx-child-claims t) (transform-jsx-child-at t) transform-jsx-child.Post
 unfolding expressionCode
-transform-jsx-child-returns-4 t c = ((record { inside = child-fits _ (told ((c .before .before .before .before .before .before .before .child-command-at) .ensures) ((c .before .before .before .before .before .command3) .given .1)); onward = λ l. omega arith }, omega arith), λ f d k u h e. child-spread (context ((c .before .before .before .before .before .before .before .before .before .before .before .before .args) .text .now) ((c .before .before .before .before .before .before .before .before .before .before .before .before .args) .settings) ((c .before .before .before .before .before .before .before .before .before .before .before .before .args) .allowed)) ((c .before .before .before .before .before .before .before .before .before .before .before .before .args) .tape .now) ((c .before .before .before .before .before .before .before .before .before .before .before .before .args) .notices .now) _ (told ((c .before .before .before .before .before .before .before .child-command-at) .ensures) ((c .before .before .before .before .before .command3) .given .1)) ((c .before .before .put-over2) .ensures call.spreadItem refl) f d k u e)
+transform-jsx-child-returns-4 t c = ((record { inside = child-fits _ (told ((c .before .before .before .before .before .before .before .child-command-at) .ensures) ((c .before .before .before .before .before .command3) .given .1)); onward = λ l. omega arith }, omega arith), λ f d k u h e. child-spread (context ((c .before .before .before .before .before .before .before .before .before .before .before .before .args) .text .now) ((c .before .before .before .before .before .before .before .before .before .before .before .before .args) .brief) ((c .before .before .before .before .before .before .before .before .before .before .before .before .args) .allowed)) ((c .before .before .before .before .before .before .before .before .before .before .before .before .args) .tape .now) ((c .before .before .before .before .before .before .before .before .before .before .before .before .args) .notices .now) _ (told ((c .before .before .before .before .before .before .before .child-command-at) .ensures) ((c .before .before .before .before .before .command3) .given .1)) ((c .before .before .put-over2) .ensures call.spreadItem refl) f d k u e)
 
 transform-jsx-child-same-length-4 : (t : ℕ) → transform-jsx-child-lts.Need-same-length-4 (transform-jsx-child-claims t) (transform-jsx-child-at t) transform-jsx-child.Post
 transform-jsx-child-same-length-4 t c = search needs
@@ -1391,7 +1402,7 @@ transform-jsx-child-same-length-5 : (t : ℕ) → transform-jsx-child-lts.Need-s
 transform-jsx-child-same-length-5 t c = search needs
 
 transform-jsx-child-returns-5 : (t : ℕ) → transform-jsx-child-lts.Need-returns-5 (transform-jsx-child-claims t) (transform-jsx-child-at t) transform-jsx-child.Post
-transform-jsx-child-returns-5 t c = ((record { inside = omega (arith, child-fits _ (told ((c .before .before .before .before .before .before .before .before .before .before .before .before .before .child-command-at) .ensures) ((c .before .before .before .before .before .before .before .before .before .before .before .command4) .given .1)), (c .before .before .before .before .before .before .transform-jsx) .ensures .0, part-length 9 ((c .before .before .before .before .before .before .before .before .before .before .before .before .before .before .before .before .before .before .args) .tape .now)); onward = λ l. omega arith }, omega arith), child-element (context ((c .before .before .before .before .before .before .before .before .before .before .before .before .before .before .before .before .before .before .args) .text .now) ((c .before .before .before .before .before .before .before .before .before .before .before .before .before .before .before .before .before .before .args) .settings) ((c .before .before .before .before .before .before .before .before .before .before .before .before .before .before .before .before .before .before .args) .allowed)) ((c .before .before .before .before .before .before .before .before .before .before .before .before .before .before .before .before .before .before .args) .tape .now) _ (tail-part ((c .before .before .before .before .before .before .before .before .before .before .before .before .before .before .before .before .before .before .args) .tape .now) 9) (child-fits _ (told ((c .before .before .before .before .before .before .before .before .before .before .before .before .before .child-command-at) .ensures) ((c .before .before .before .before .before .before .before .before .before .before .before .command4) .given .1))) ((c .before .before .before .before .before .before .before .before .before .before .before .command4) .given .0 .0) (told ((c .before .before .before .before .before .before .before .before .before .before .before .before .before .child-command-at) .ensures) ((c .before .before .before .before .before .before .before .before .before .before .before .command4) .given .1)) (search needs) (search needs) ((c .before .before .before .before .before .before .transform-jsx) .ensures .1))
+transform-jsx-child-returns-5 t c = ((record { inside = omega (arith, child-fits _ (told ((c .before .before .before .before .before .before .before .before .before .before .before .before .before .child-command-at) .ensures) ((c .before .before .before .before .before .before .before .before .before .before .before .command4) .given .1)), (c .before .before .before .before .before .before .transform-jsx) .ensures .0, part-length 9 ((c .before .before .before .before .before .before .before .before .before .before .before .before .before .before .before .before .before .before .args) .tape .now)); onward = λ l. omega arith }, omega arith), child-element (context ((c .before .before .before .before .before .before .before .before .before .before .before .before .before .before .before .before .before .before .args) .text .now) ((c .before .before .before .before .before .before .before .before .before .before .before .before .before .before .before .before .before .before .args) .brief) ((c .before .before .before .before .before .before .before .before .before .before .before .before .before .before .before .before .before .before .args) .allowed)) ((c .before .before .before .before .before .before .before .before .before .before .before .before .before .before .before .before .before .before .args) .tape .now) _ (tail-part ((c .before .before .before .before .before .before .before .before .before .before .before .before .before .before .before .before .before .before .args) .tape .now) 9) (child-fits _ (told ((c .before .before .before .before .before .before .before .before .before .before .before .before .before .child-command-at) .ensures) ((c .before .before .before .before .before .before .before .before .before .before .before .command4) .given .1))) ((c .before .before .before .before .before .before .before .before .before .before .before .command4) .given .0 .0) (told ((c .before .before .before .before .before .before .before .before .before .before .before .before .before .child-command-at) .ensures) ((c .before .before .before .before .before .before .before .before .before .before .before .command4) .given .1)) (search needs) (search needs) ((c .before .before .before .before .before .before .transform-jsx) .ensures .1))
 
 transform-jsx-child-same-length-6 : (t : ℕ) → transform-jsx-child-lts.Need-same-length-6 (transform-jsx-child-claims t) (transform-jsx-child-at t) transform-jsx-child.Post
 transform-jsx-child-same-length-6 t c = search needs
@@ -1400,10 +1411,10 @@ transform-jsx-child-same-length-7 : (t : ℕ) → transform-jsx-child-lts.Need-s
 transform-jsx-child-same-length-7 t c = search needs
 
 transform-jsx-child-returns-6 : (t : ℕ) → transform-jsx-child-lts.Need-returns-6 (transform-jsx-child-claims t) (transform-jsx-child-at t) transform-jsx-child.Post
-transform-jsx-child-returns-6 t c = ((record { inside = omega (arith, child-fits _ (told ((c .before .before .before .before .before .before .before .before .before .before .before .before .child-command-at) .ensures) ((c .before .before .before .before .before .before .before .before .before .before .enum-told2) .given .1)), (c .before .before .before .before .before .before .fragment) .ensures .0, part-length 9 ((c .before .before .before .before .before .before .before .before .before .before .before .before .before .before .before .before .before .args) .tape .now)); onward = λ l. omega arith }, omega arith), child-fragment (context ((c .before .before .before .before .before .before .before .before .before .before .before .before .before .before .before .before .before .args) .text .now) ((c .before .before .before .before .before .before .before .before .before .before .before .before .before .before .before .before .before .args) .settings) ((c .before .before .before .before .before .before .before .before .before .before .before .before .before .before .before .before .before .args) .allowed)) ((c .before .before .before .before .before .before .before .before .before .before .before .before .before .before .before .before .before .args) .tape .now) _ (tail-part ((c .before .before .before .before .before .before .before .before .before .before .before .before .before .before .before .before .before .args) .tape .now) 9) (child-fits _ (told ((c .before .before .before .before .before .before .before .before .before .before .before .before .child-command-at) .ensures) ((c .before .before .before .before .before .before .before .before .before .before .enum-told2) .given .1))) _ (told ((c .before .before .before .before .before .before .before .before .before .before .before .before .child-command-at) .ensures) ((c .before .before .before .before .before .before .before .before .before .before .enum-told2) .given .1)) ((c .before .before .before .before .before .before .fragment) .ensures .1))
+transform-jsx-child-returns-6 t c = ((record { inside = omega (arith, child-fits _ (told ((c .before .before .before .before .before .before .before .before .before .before .before .before .child-command-at) .ensures) ((c .before .before .before .before .before .before .before .before .before .before .enum-told2) .given .1)), (c .before .before .before .before .before .before .fragment) .ensures .0, part-length 9 ((c .before .before .before .before .before .before .before .before .before .before .before .before .before .before .before .before .before .args) .tape .now)); onward = λ l. omega arith }, omega arith), child-fragment (context ((c .before .before .before .before .before .before .before .before .before .before .before .before .before .before .before .before .before .args) .text .now) ((c .before .before .before .before .before .before .before .before .before .before .before .before .before .before .before .before .before .args) .brief) ((c .before .before .before .before .before .before .before .before .before .before .before .before .before .before .before .before .before .args) .allowed)) ((c .before .before .before .before .before .before .before .before .before .before .before .before .before .before .before .before .before .args) .tape .now) _ (tail-part ((c .before .before .before .before .before .before .before .before .before .before .before .before .before .before .before .before .before .args) .tape .now) 9) (child-fits _ (told ((c .before .before .before .before .before .before .before .before .before .before .before .before .child-command-at) .ensures) ((c .before .before .before .before .before .before .before .before .before .before .enum-told2) .given .1))) _ (told ((c .before .before .before .before .before .before .before .before .before .before .before .before .child-command-at) .ensures) ((c .before .before .before .before .before .before .before .before .before .before .enum-told2) .given .1)) ((c .before .before .before .before .before .before .fragment) .ensures .1))
 
 transform-jsx-child-returns-7 : (t : ℕ) → transform-jsx-child-lts.Need-returns-7 (transform-jsx-child-claims t) (transform-jsx-child-at t) transform-jsx-child.Post
-transform-jsx-child-returns-7 t c = ((record { inside = child-fits _ (told ((c .before .before .child-command-at) .ensures) ((c .enum-told3) .given .1)); onward = λ l. let z : _≡_ {A = ℕ} 0 1 = cc in absurd (omega arith) }, omega arith), λ f d k u h e. child-end (context ((c .before .before .before .before .before .before .before .args) .text .now) ((c .before .before .before .before .before .before .before .args) .settings) ((c .before .before .before .before .before .before .before .args) .allowed)) ((c .before .before .before .before .before .before .before .args) .tape .now) ((c .before .before .before .before .before .before .before .args) .calls .now) ((c .before .before .before .before .before .before .before .args) .notices .now) _ (told ((c .before .before .child-command-at) .ensures) ((c .enum-told3) .given .1)) f d k u e)
+transform-jsx-child-returns-7 t c = ((record { inside = child-fits _ (told ((c .before .before .child-command-at) .ensures) ((c .enum-told3) .given .1)); onward = λ l. let z : _≡_ {A = ℕ} 0 1 = cc in absurd (omega arith) }, omega arith), λ f d k u h e. child-end (context ((c .before .before .before .before .before .before .before .args) .text .now) ((c .before .before .before .before .before .before .before .args) .brief) ((c .before .before .before .before .before .before .before .args) .allowed)) ((c .before .before .before .before .before .before .before .args) .tape .now) ((c .before .before .before .before .before .before .before .args) .calls .now) ((c .before .before .before .before .before .before .before .args) .notices .now) _ (told ((c .before .before .child-command-at) .ensures) ((c .enum-told3) .given .1)) f d k u e)
 
 transform-jsx-child-returns-8 : (t : ℕ) → transform-jsx-child-lts.Need-returns-8 (transform-jsx-child-claims t) (transform-jsx-child-at t) transform-jsx-child.Post
 transform-jsx-child-returns-8 t c = ((record { inside = omega arith; onward = λ l. let z : _≡_ {A = ℕ} 0 1 = cc in absurd (omega arith) }, omega arith), λ f d k u h e. absurd (children-wrong ((c .before .before .before .before .before .before .before .args) .text .now) ((c .before .before .before .before .before .before .before .args) .tape .now) d f (told ((c .before .before .child-command-at) .ensures) ((c .enum-told4) .given .1)) e))
@@ -1571,6 +1582,7 @@ pub +argument+attribute+attrs+automatic+bare+bare-auto+behind+children+create+fr
     (bare-put-bare-requires t)
     (bare-children-requires t)
     (bare-put-bare-requires-2 t)
+    (bare-mode-of-requires t)
     (bare-get-fragment-requires t)
     (bare-closing-requires t)
     (bare-same-length t)
@@ -1585,6 +1597,7 @@ pub +argument+attribute+attrs+automatic+bare+bare-auto+behind+children+create+fr
     (bare-auto-no-key-requires t)
     (bare-auto-static-children-requires t)
     (bare-auto-put-bare-requires-2 t)
+    (bare-auto-mode-of-requires t)
     (bare-auto-get-fragment-requires t)
     (bare-auto-automatic-name-requires t)
     (bare-auto-closing-requires t)
@@ -1643,6 +1656,7 @@ pub +argument+attribute+attrs+automatic+bare+bare-auto+behind+children+create+fr
     (λ t. fragment-lts.spec (fragment-claims t)
     (fragment-at t)
     fragment.Post
+    (fragment-mode-of-requires t)
     (fragment-is-classic-requires t)
     (fragment-bare-requires t)
     (fragment-same-length t)

@@ -15,11 +15,14 @@ use Rattle.jsx.proofs.jsx_impl.transform_root.Reads as transform-root-r
 root-head-requires : tie.Need-root-head-requires
 root-head-requires c κs = search needs
 
+brief-requires : tie.Need-brief-requires
+brief-requires c κs = search needs
+
 sub-transform-root : tie.Need-sub-transform-root
-sub-transform-root c = omega (arith, (c .root-head) .ensures .0)
+sub-transform-root c = omega (arith, (c .before .root-head) .ensures .0)
 
 part-transform-root-start : tie.Need-part-transform-root-start
-part-transform-root-start c = omega (arith, (c .root-head) .ensures .0)
+part-transform-root-start c = omega (arith, (c .before .root-head) .ensures .0)
 
 part-transform-root-end : tie.Need-part-transform-root-end
 part-transform-root-end c = search needs
@@ -34,13 +37,14 @@ same-length-2 : tie.Need-same-length-2
 same-length-2 c = search needs
 
 returns : tie.Need-returns
-returns c = λ o u e. root-lowered ((c .before .before .before .before .before .before .before .before .before .before .before .before .before .args) .text .now) ((c .before .before .before .before .before .before .before .before .before .before .before .before .before .args) .tape .now) _ ((c .before .before .before .before .before .before .before .before .before .before .before .before .before .args) .settings) o ((c .before .before .before .before .before .before .before .before .root-head) .result) (tail-part ((c .before .before .before .before .before .before .before .before .before .before .before .before .before .args) .tape .now) ((c .before .before .before .before .before .before .before .before .root-head) .result .used)) ((c .before .before .before .before .before .before .before .before .root-head) .ensures .1 ((c .before .before .before .before .before .before .before .before .before .before .before .before .before .args) .text .now) o u e) ((c .before .before .before .before .transform-root) .ensures)
+returns c = λ o u e. root-lowered ((c .before .before .before .before .before .before .before .before .before .before .before .before .before .before .args) .text .now) ((c .before .before .before .before .before .before .before .before .before .before .before .before .before .before .args) .tape .now) _ ((c .before .before .before .before .before .before .before .before .before .before .before .before .before .before .args) .settings) ((c .before .before .before .before .before .before .before .before .brief) .result) o ((c .before .before .before .before .before .before .before .before .before .root-head) .result) ((c .before .before .before .before .before .before .before .before .brief) .ensures) (tail-part ((c .before .before .before .before .before .before .before .before .before .before .before .before .before .before .args) .tape .now) ((c .before .before .before .before .before .before .before .before .before .root-head) .result .used)) ((c .before .before .before .before .before .before .before .before .before .root-head) .ensures .1 ((c .before .before .before .before .before .before .before .before .before .before .before .before .before .before .args) .text .now) o u e) ((c .before .before .before .before .transform-root) .ensures)
 
 pub lower-spec : {M : Type 1} → statement M
 lower-spec =
     tie.close
     (tie.spec
     root-head-requires
+    brief-requires
     sub-transform-root
     part-transform-root-start
     part-transform-root-end

@@ -68,7 +68,7 @@ same-length-2 : tie.Need-same-length-2
 same-length-2 c = search needs
 
 returns : tie.Need-returns
-returns c = root-element (context ((c .before .before .before .before .before .before .before .before .before .before .before .before .before .before .before .before .before .args) .text .now) ((c .before .before .before .before .before .before .before .before .before .before .before .before .before .before .before .before .before .args) .settings) ((c .before .before .before .before .before .before .before .before .before .before .before .before .before .before .before .before .before .args) .allowed)) ((c .before .before .before .before .before .before .before .before .before .before .before .before .before .before .before .before .before .args) .tape .now) _ (tail-part ((c .before .before .before .before .before .before .before .before .before .before .before .before .before .before .before .before .before .args) .tape .now) 9) (scope-fits true ((c .before .before .before .before .before .before .before .before .before .before .before .before .before .before .before .before .before .args) .tape .now) (told ((c .before .before .before .before .before .before .before .before .before .before .before .before .scope-command-at) .ensures) ((c .before .before .before .before .before .before .before .before .before .before .command) .given .1))) ((c .before .before .before .before .before .before .before .before .before .before .command) .given .0 .0) (told ((c .before .before .before .before .before .before .before .before .before .before .before .before .scope-command-at) .ensures) ((c .before .before .before .before .before .before .before .before .before .before .command) .given .1)) (search needs) (search needs) ((c .before .before .before .before .before .transform-jsx) .ensures .1)
+returns c = root-element (context ((c .before .before .before .before .before .before .before .before .before .before .before .before .before .before .before .before .before .args) .text .now) ((c .before .before .before .before .before .before .before .before .before .before .before .before .before .before .before .before .before .args) .brief) ((c .before .before .before .before .before .before .before .before .before .before .before .before .before .before .before .before .before .args) .allowed)) ((c .before .before .before .before .before .before .before .before .before .before .before .before .before .before .before .before .before .args) .tape .now) _ (tail-part ((c .before .before .before .before .before .before .before .before .before .before .before .before .before .before .before .before .before .args) .tape .now) 9) (scope-fits true ((c .before .before .before .before .before .before .before .before .before .before .before .before .before .before .before .before .before .args) .tape .now) (told ((c .before .before .before .before .before .before .before .before .before .before .before .before .scope-command-at) .ensures) ((c .before .before .before .before .before .before .before .before .before .before .command) .given .1))) ((c .before .before .before .before .before .before .before .before .before .before .command) .given .0 .0) (told ((c .before .before .before .before .before .before .before .before .before .before .before .before .scope-command-at) .ensures) ((c .before .before .before .before .before .before .before .before .before .before .command) .given .1)) (search needs) (search needs) ((c .before .before .before .before .before .transform-jsx) .ensures .1)
 
 same-length-3 : tie.Need-same-length-3
 same-length-3 c = search needs
@@ -77,7 +77,7 @@ same-length-4 : tie.Need-same-length-4
 same-length-4 c = search needs
 
 returns-2 : tie.Need-returns-2
-returns-2 c = root-fragment (context ((c .before .before .before .before .before .before .before .before .before .before .before .before .before .before .before .before .args) .text .now) ((c .before .before .before .before .before .before .before .before .before .before .before .before .before .before .before .before .args) .settings) ((c .before .before .before .before .before .before .before .before .before .before .before .before .before .before .before .before .args) .allowed)) ((c .before .before .before .before .before .before .before .before .before .before .before .before .before .before .before .before .args) .tape .now) _ (tail-part ((c .before .before .before .before .before .before .before .before .before .before .before .before .before .before .before .before .args) .tape .now) 9) (scope-fits true ((c .before .before .before .before .before .before .before .before .before .before .before .before .before .before .before .before .args) .tape .now) (told ((c .before .before .before .before .before .before .before .before .before .before .before .scope-command-at) .ensures) ((c .before .before .before .before .before .before .before .before .before .enum-told) .given .1))) _ (told ((c .before .before .before .before .before .before .before .before .before .before .before .scope-command-at) .ensures) ((c .before .before .before .before .before .before .before .before .before .enum-told) .given .1)) ((c .before .before .before .before .before .fragment) .ensures .1)
+returns-2 c = root-fragment (context ((c .before .before .before .before .before .before .before .before .before .before .before .before .before .before .before .before .args) .text .now) ((c .before .before .before .before .before .before .before .before .before .before .before .before .before .before .before .before .args) .brief) ((c .before .before .before .before .before .before .before .before .before .before .before .before .before .before .before .before .args) .allowed)) ((c .before .before .before .before .before .before .before .before .before .before .before .before .before .before .before .before .args) .tape .now) _ (tail-part ((c .before .before .before .before .before .before .before .before .before .before .before .before .before .before .before .before .args) .tape .now) 9) (scope-fits true ((c .before .before .before .before .before .before .before .before .before .before .before .before .before .before .before .before .args) .tape .now) (told ((c .before .before .before .before .before .before .before .before .before .before .before .scope-command-at) .ensures) ((c .before .before .before .before .before .before .before .before .before .enum-told) .given .1))) _ (told ((c .before .before .before .before .before .before .before .before .before .before .before .scope-command-at) .ensures) ((c .before .before .before .before .before .before .before .before .before .enum-told) .given .1)) ((c .before .before .before .before .before .fragment) .ensures .1)
 
 returns-3 : tie.Need-returns-3
 returns-3 c = λ n h. no-node ((c .before .before .before .before .before .before .before .args) .text .now) ((c .before .before .before .before .before .before .before .args) .tape .now) n _ (scope _) (told ((c .before .before .scope-command-at) .ensures) ((c .enum-told2) .given .1)) h

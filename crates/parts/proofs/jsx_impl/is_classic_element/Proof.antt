@@ -8,22 +8,21 @@ use borrow.Author.Needs.{needs}
 use Rattle.parts.proofs.jsx_impl.is_classic_element.Statement.{statement}
 use Rattle.parts.proofs.jsx_impl.is_classic_element.Tie as tie
 
--- src/jsx_impl.rt:320:8
+mode-of-requires : tie.Need-mode-of-requires
+mode-of-requires c κs = search needs
+
 is-classic-requires : tie.Need-is-classic-requires
 is-classic-requires c κs = search needs
 
--- src/jsx_impl.rt:321:9
 returns : tie.Need-returns
-returns c = λ k e s f d a u h i. sym (ap (λ (b : Bool). b || keyAfterSpread k false a) (ap (λ (x : Settings). isClassic (x .mode)) s ∙ told ((c .before .is-classic) .ensures) ((c .if1) .taken)))
+returns c = λ k e s f d a u h i. sym (ap (λ (b : Bool). b || keyAfterSpread k false a) (ap (λ (x : Settings). isClassic (x .mode)) s ∙ ap isClassic (sym ((c .before .before .mode-of) .ensures)) ∙ told ((c .before .is-classic) .ensures) ((c .if1) .taken)))
 
--- src/jsx_impl.rt:323:5
 has-key-after-props-spread-requires : tie.Need-has-key-after-props-spread-requires
 has-key-after-props-spread-requires c κs = search needs
 
--- src/jsx_impl.rt:315:1
 returns-2 : tie.Need-returns-2
-returns-2 c = λ k e s f d a u h i. (c .has-key-after-props-spread) .ensures k e f d a u h i ∙ sym (ap (λ (b : Bool). b || keyAfterSpread k false a) (ap (λ (x : Settings). isClassic (x .mode)) s ∙ told ((c .before .before .is-classic) .ensures) ((c .before .if1) .left)))
+returns-2 c = λ k e s f d a u h i. (c .has-key-after-props-spread) .ensures k e f d a u h i ∙ sym (ap (λ (b : Bool). b || keyAfterSpread k false a) (ap (λ (x : Settings). isClassic (x .mode)) s ∙ ap isClassic (sym ((c .before .before .before .mode-of) .ensures)) ∙ told ((c .before .before .is-classic) .ensures) ((c .before .if1) .left)))
 
 pub is-classic-element-spec : {M : Type 1} → statement M
 is-classic-element-spec =
-    tie.close (tie.spec is-classic-requires returns has-key-after-props-spread-requires returns-2)
+    tie.close (tie.spec mode-of-requires is-classic-requires returns has-key-after-props-spread-requires returns-2)
