@@ -29,6 +29,8 @@ use Rattle.parts.specs.Promises.{LiteralWritten, someOutput}
 use Rattle.jsx.specs.Parts.{Written, Moves, ends, goes, KeyFirst, other, first, KeyAt, no-key, key-at, AttributesEnd, AttributesGo, AttributeStep, AttributesWritten}
 use Rattle.parts.proofs.Inversions.{Behind, Within, attributes-end, attributes-plain, attributes-namespaced, attributes-spread, attributes-literal}
 use Rattle.jsx.proofs.Writing.{none, along, called}
+use Rattle.parts.specs.Promises.{startsWith}
+use Rattle.parts.proofs.Ends.{attributes-over}
 use Rattle.jsx.proofs.Turns.{Left, left-start, left-goes, left-ends}
 use Rattle.jsx.proofs.Lowerings.{KeySoFar, key-start, key-goes, key-passed, property-written, classic-property}
 
@@ -325,6 +327,20 @@ module _ (c : Context) (classic : Bool) (t : List ℕ) {cs₀ cs cs₁ ns₀ ns 
             let n : now ≡ key = newer ∙ ap (λ (q : ℕ). cond (eqb q 0) key (i + q)) (E .1) in
             rw (same, n) (k .place),
       )
+
+or-false : (x : Bool) → (x || false) ≡ x
+or-false true = refl
+or-false false = refl
+
+-- the end, seen by its first byte
+pub left-over : (c : Context) (classic : Bool) (t : List ℕ) {cs₀ cs ns₀ ns : List ℕ} {p₀ p : Pen} {i : ℕ} {some : Bool} {key : ℕ} → i ≤ length t
+    → length cs₀ ≤ 2 ^ 63 → length ns₀ ≤ 2 ^ 63 → startsWith 0x1e (part i t) ≡ true → (d : ℕ) (a : Attributes) (u : ℕ)
+    → AttributesLeft c classic d t a u cs₀ cs ns₀ ns p₀ p i some key
+    → AttributesWritten c classic d t a u cs₀ cs ns₀ ns p₀ (record { pen = p; used = i + 1; last = true; some = some; key = key })
+left-over c classic t {cs₀} {cs} {ns₀} {ns} {p₀} {p} {i} {some} {key} within short short′ over d a u R =
+    subst (λ (b : Bool). AttributesWritten c classic d t a u cs₀ cs ns₀ ns p₀ (record { pen = p; used = i + 1; last = true; some = b; key = key })) (or-false some)
+    (left-done c classic t {now = key} (record { pen = p; used = 1; last = true; some = false; key = 0 }) within short short′
+    (λ f d a u h e. end-step c classic (part i t) (attributes-over (part i t) over) p f d a u h e) refl d a u R refl)
 
 -- ---- the value of the last key
 

@@ -27,6 +27,8 @@ use Rattle.jsx.specs.Parts.{Written, Countable, Step, goes, Moves, Child
 use Rattle.parts.proofs.Inversions.{Opening, Behind, value-element, value-fragment}
 use Rattle.jsx.proofs.Nesting.{NodeFirst, children-end, children-wrong, children-cut, children-text, children-expression, children-empty, children-spread, children-element, children-fragment}
 use Rattle.jsx.proofs.Writing.{none, along, called, being, instead}
+use Rattle.parts.specs.Promises.{startsWith}
+use Rattle.parts.proofs.Ends.{children-over, some-there}
 use Rattle.jsx.proofs.Turns.{Left, left-start, left-goes, left-ends}
 use Rattle.jsx.proofs.Lowerings.{node-written, step-on, step-end, text-counts, expression-counts, empty-counts, spread-counts, node-counts, no-survivors, children-none, children-some}
 
@@ -232,6 +234,19 @@ module _ (c : Context) (t : List ℕ) {cs₀ cs cs₁ ns₀ ns ns₁ : List ℕ}
         ap (λ (b : Bool). spread || b) (E .3) ∙ sym (S .spreads ∙ ap (λ (b : Bool). spread || b) (E .1)),
       )) in
       record { taken = sym (z .0); counted = z .2 .0; spreads = z .2 .1; wrote = z .1 }
+
+-- the end, seen by its first byte
+pub kids-over : (c : Context) (t : List ℕ) {cs₀ cs ns₀ ns : List ℕ} {p₀ p : Pen} {i count : ℕ} {spread : Bool} → KidsLeft c t cs₀ cs ns₀ ns p₀ p i count spread
+    → (q : List ℕ) → q ≡ drop i t → length cs₀ ≤ 2 ^ 63 → length ns₀ ≤ 2 ^ 63 → startsWith 0x1f q ≡ true
+    → (f d : ℕ) (k : Children) (u : ℕ) → length t < f → childrenAt f (c .text) d t ≡ done k u
+    → ChildrenWritten c k (lowerChildren c k) u cs₀ cs ns₀ ns p₀ (record { pen = p; used = i + 1; last = true; count = count; spread = spread })
+kids-over c t {cs₀} {cs} {ns₀} {ns} {p₀} {p} {i} {count} {spread} K q here short short′ over f d k u h e =
+    let none-more : count + 0 ≡ count = omega arith in
+    subst (λ (b : Bool). ChildrenWritten c k (lowerChildren c k) u cs₀ cs ns₀ ns p₀ (record { pen = p; used = i + 1; last = true; count = count; spread = b })) (or-false spread)
+    (subst (λ (n : ℕ). ChildrenWritten c k (lowerChildren c k) u cs₀ cs ns₀ ns p₀ (record { pen = p; used = i + 1; last = true; count = n; spread = spread || false })) none-more
+    (kids-end c t K q here (record { pen = p; used = 1; last = true; count = 0; spread = false })
+    (record { inside = some-there 0x1f q over; onward = λ l. let z : _≡_ {A = ℕ} 0 1 = cc in absurd (omega arith) }) (omega arith)
+    (λ f d k u h e. child-end c q cs ns p (children-over q over) f d k u e) short short′ refl f d k u h e))
 
 -- ---- the children of an automatic call and the end of its object
 

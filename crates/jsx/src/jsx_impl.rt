@@ -50,6 +50,7 @@ use parts::jsx_impl::lone_spread;
 use parts::jsx_impl::newer;
 use parts::jsx_impl::passed;
 use parts::jsx_impl::skip_name;
+use parts::jsx_impl::starts_with;
 use parts::jsx_impl::transform_jsx_text;
 use pen::pen::Pen;
 use pen::pen::put_bare;
@@ -278,6 +279,15 @@ fn attrs(
     let mut some = false;
     let mut key: usize = 0;
     loop {
+        if starts_with(&tape[i..], 0x1e) {
+            return Props {
+                pen: next,
+                used: i + 1,
+                last: true,
+                some: some,
+                key: key,
+            };
+        }
         let step = attribute(
             text,
             brief,
@@ -417,6 +427,15 @@ fn children(
     let mut count: usize = 0;
     let mut spread = false;
     loop {
+        if starts_with(&tape[i..], 0x1f) {
+            return Items {
+                pen: next,
+                used: i + 1,
+                last: true,
+                count: count,
+                spread: spread,
+            };
+        }
         let step = transform_jsx_child(text, brief, allowed, &tape[i..], calls, notices, next);
         next = step.pen;
         count = count + step.count;

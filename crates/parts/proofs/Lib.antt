@@ -2,3 +2,4 @@ pub mod Inversions
 pub mod Noticing
 pub mod Fronts
 pub mod Spreading
+pub mod Ends

@@ -4,6 +4,7 @@ use mathlib.Core.Bool.{Bool, true, false}
 use mathlib.Core.List.{List, [], _∷_}
 use Prim.Native.Nat.{ℕ, suc, _+_, _≤_, _<_}
 use lib.ListN.{length, drop}
+use lib.Dec.{eqb}
 use Rattle.text.specs.declared.spans.Span.{Span}
 use Rattle.definitions.specs.Calls as call
 use Rattle.definitions.specs.Judging.{done}
@@ -19,6 +20,11 @@ use Rattle.parts.specs.declared.jsx_impl.Lone.{Lone}
 use Rattle.parts.specs.declared.jsx_impl.Lone.the-variants as lone
 use Rattle.parts.specs.declared.jsx_impl.Front.{Front}
 use Rattle.parts.specs.declared.jsx_impl.Front.the-variants as front
+
+-- whether a tape begins with this code
+unfoldable pub startsWith : ℕ → List ℕ → Bool
+startsWith code [] = false
+startsWith code (b ∷ t) = eqb b code
 
 -- whether there is any
 unfoldable pub someOutput : List Output → Bool

@@ -19,7 +19,7 @@ ghost use Rattle.definitions.specs.Reading.{membersAt, nameAt, propertiesAt, at
 ghost use Rattle.definitions.specs.Lowering.{Context, Output, isKey, hasValue, keyNotice, keyAfterSpread, classicElement, formOf, lowerLiteral, selfOutput, sourceOutput};
 ghost use Rattle.pen.specs.Emitting.{Noticed};
 ghost use Rattle.emit.specs.Brief.{settingsIn};
-ghost use Rattle.parts.specs.Promises.{SoleAt, IsText, TextWritten, LiteralWritten, someOutput, Alone, LoneWithin, FrontWithin, FrontIs};
+ghost use Rattle.parts.specs.Promises.{SoleAt, IsText, TextWritten, LiteralWritten, someOutput, Alone, LoneWithin, FrontWithin, FrontIs, startsWith};
 use commands::root::AttributeCommand;
 use commands::root::MemberCommand;
 use commands::root::NameCommand;
@@ -198,6 +198,16 @@ pub fn newer(at: usize, key: usize, before: usize) -> usize
         return before;
     }
     at + key
+}
+
+// Whether a tape begins with this code: an end, told without a step.
+pub fn starts_with(tape: &[u8], code: u8) -> bool
+    ensures { λ r. ⌜ r ≡ startsWith code (now (tape .entry)) ⌝ }
+{
+    if tape.len() == 0 {
+        return false;
+    }
+    tape[0] == code
 }
 
 // The form of an automatic call's children: one bare item, or an array. A lone spread stays in an array.

@@ -8,11 +8,11 @@ use Rattle.jsx.specs.Parts.{context}
 use Rattle.parts.proofs.Inversions.{value-wrong, value-cut, attributes-wrong, attributes-cut}
 use Rattle.jsx.proofs.Nesting.{children-wrong, children-cut}
 use Rattle.jsx.proofs.Lowerings.{absent-written, empty-written, text-written, expression-written}
-use Rattle.jsx.proofs.Parenting.{value-element-written, value-fragment-written, child-text, child-expression, child-spread, child-empty, child-end, child-element, child-fragment, KidsLeft, kids-start, kid-fits, kids-fit, kids-go, kids-end, object-bare, object-full}
+use Rattle.jsx.proofs.Parenting.{value-element-written, value-fragment-written, child-text, child-expression, child-spread, child-empty, child-end, child-element, child-fragment, KidsLeft, kids-start, kid-fits, kids-fit, kids-go, kids-end, kids-over, object-bare, object-full}
 use Rattle.definitions.specs.Judging.{done}
 use Rattle.definitions.specs.Tree.{Attributes}
 use Rattle.definitions.specs.Reading.{attributesAt}
-use Rattle.jsx.proofs.Attributing.{part-size, value-behind-written, plain-written, facts-moves, passed-moves, literal-moves, ended, plain-key, plain-property, plain-passed, namespaced-step, spread-step, literal-step, end-step, AttributesLeft, left-begin, key-within, left-more, left-done, key-none, key-some}
+use Rattle.jsx.proofs.Attributing.{part-size, value-behind-written, plain-written, facts-moves, passed-moves, literal-moves, ended, plain-key, plain-property, plain-passed, namespaced-step, spread-step, literal-step, end-step, AttributesLeft, left-begin, key-within, left-more, left-done, left-over, key-none, key-some}
 use borrow.Author.Needs.{needs}
 use Prim.Native.Nat.{ℕ, suc, _≤_, _<_, _+_, _-_, _*_, _^_}
 use native.Mathlib.Omega.{arith}
@@ -93,6 +93,8 @@ use Rattle.pen.proofs.pen.put_over.Reads as put-over-reads
 use Rattle.parts.proofs.jsx_impl.children_form.Reads as children-form-reads
 use Rattle.parts.proofs.jsx_impl.has_more.Reads as has-more-reads
 use Rattle.parts.proofs.jsx_impl.is_classic.Reads as is-classic-reads
+use Rattle.parts.proofs.jsx_impl.starts_with.Reads as starts-with-reads
+use Rattle.parts.proofs.Ends.{some-there}
 use Rattle.parts.proofs.jsx_impl.is_classic_element.Reads as is-classic-element-reads
 use Rattle.parts.proofs.jsx_impl.is_valued_key.Reads as is-valued-key-reads
 use Rattle.parts.proofs.jsx_impl.key_notice.Reads as key-notice-reads
@@ -366,7 +368,7 @@ abbrev attribute-claims : ℕ → attribute-lts.Claims
 attribute-claims t = (attribute-command-at-reads.Asked, attribute-command-at-reads.Learnt, is-valued-key-reads.Asked, is-valued-key-reads.Learnt, plain-below t, plain.Post, skip-value-reads.Asked, skip-value-reads.Learnt, passed-reads.Asked, passed-reads.Learnt, put-bare-reads.Asked, put-bare-reads.Learnt, put-namespaced-reads.Asked, put-namespaced-reads.Learnt, behind-below t, behind.Post, put-over-reads.Asked, put-over-reads.Learnt, literal-attribute-reads.Asked, literal-attribute-reads.Learnt)
 
 abbrev attrs-claims : ℕ → attrs-lts.Claims
-attrs-claims t = (attribute-below t, attribute.Post, newer-reads.Asked, newer-reads.Learnt)
+attrs-claims t = (starts-with-reads.Asked, starts-with-reads.Learnt, attribute-below t, attribute.Post, newer-reads.Asked, newer-reads.Learnt)
 
 abbrev automatic-claims : ℕ → automatic-lts.Claims
 automatic-claims t = (put-byte-reads.Asked, put-byte-reads.Learnt, put-bare-reads.Asked, put-bare-reads.Learnt, attrs-below t, attrs.Post, inner-below t, inner.Post, key-of-below t, key-of.Post, static-children-reads.Asked, static-children-reads.Learnt, source-output-reads.Asked, source-output-reads.Learnt, self-output-reads.Asked, self-output-reads.Learnt, transform-element-name-reads.Asked, transform-element-name-reads.Learnt, automatic-name-reads.Asked, automatic-name-reads.Learnt, closing-reads.Asked, closing-reads.Learnt)
@@ -381,7 +383,7 @@ abbrev inner-claims : ℕ → inner-lts.Claims
 inner-claims t = (put-bare-reads.Asked, put-bare-reads.Learnt, children-below t, children.Post, children-form-reads.Asked, children-form-reads.Learnt, put-byte-reads.Asked, put-byte-reads.Learnt)
 
 abbrev children-claims : ℕ → children-lts.Claims
-children-claims t = (transform-jsx-child-below t, transform-jsx-child.Post)
+children-claims t = (starts-with-reads.Asked, starts-with-reads.Learnt, transform-jsx-child-below t, transform-jsx-child.Post)
 
 abbrev create-claims : ℕ → create-lts.Claims
 create-claims t = (put-byte-reads.Asked, put-byte-reads.Learnt, argument-below t, argument.Post, children-below t, children.Post, put-bare-reads.Asked, put-bare-reads.Learnt, transform-element-name-reads.Asked, transform-element-name-reads.Learnt, closing-reads.Asked, closing-reads.Learnt)
@@ -592,38 +594,62 @@ attrs-short t c = (omega arith, omega arith)
 attrs-loop-holds : (t : ℕ) → attrs-lts.Need-loop-holds (attrs-claims t) (attrs-at t) attrs.Post attrs-Inv-loop attrs-μ-loop
 attrs-loop-holds t c = (omega arith, omega arith, refl, refl, left-begin _ _ ((c .before .before .before .before .args) .tape .now) _ _ _)
 
+attrs-sub-starts-with : (t : ℕ) → attrs-lts.Need-sub-starts-with (attrs-claims t) (attrs-at t) attrs.Post attrs-Inv-loop attrs-μ-loop
+attrs-sub-starts-with t c = omega (arith, (c .loop) .inv .0)
+
+attrs-part-starts-with-start : (t : ℕ) → attrs-lts.Need-part-starts-with-start (attrs-claims t) (attrs-at t) attrs.Post attrs-Inv-loop attrs-μ-loop
+attrs-part-starts-with-start t c = omega (arith, (c .loop) .inv .0)
+
+attrs-part-starts-with-end : (t : ℕ) → attrs-lts.Need-part-starts-with-end (attrs-claims t) (attrs-at t) attrs.Post attrs-Inv-loop attrs-μ-loop
+attrs-part-starts-with-end t c = search needs
+
+attrs-starts-with-requires : (t : ℕ) → attrs-lts.Need-starts-with-requires (attrs-claims t) (attrs-at t) attrs.Post attrs-Inv-loop attrs-μ-loop
+attrs-starts-with-requires t c κs = search needs
+
+attrs-add-t19 : (t : ℕ) → attrs-lts.Need-add-t19 (attrs-claims t) (attrs-at t) attrs.Post attrs-Inv-loop attrs-μ-loop
+attrs-add-t19 t c = omega (arith, (c .before .before .before .before .before .before .before .before), (c .before .before .before .loop) .inv .0)
+
+attrs-same-length : (t : ℕ) → attrs-lts.Need-same-length (attrs-claims t) (attrs-at t) attrs.Post attrs-Inv-loop attrs-μ-loop
+attrs-same-length t c = (c .before .before .before .loop) .inv .2
+
+attrs-same-length-2 : (t : ℕ) → attrs-lts.Need-same-length-2 (attrs-claims t) (attrs-at t) attrs.Post attrs-Inv-loop attrs-μ-loop
+attrs-same-length-2 t c = (c .before .before .before .loop) .inv .3
+
+attrs-returns : (t : ℕ) → attrs-lts.Need-returns (attrs-claims t) (attrs-at t) attrs.Post attrs-Inv-loop attrs-μ-loop
+attrs-returns t c = ((omega (arith, some-there 0x1e _ (sym ((c .before .starts-with) .ensures) ∙ (c .if1) .taken), part-size ((c .before .before .before .loop) .i) ((c .before .before .before .before .before .before .before .before .args) .tape .now), (c .before .before .before .loop) .inv .0), (c .before .before .before .loop) .inv .1), λ f d a u h e. left-over _ _ ((c .before .before .before .before .before .before .before .before .args) .tape .now) ((c .before .before .before .loop) .inv .0) (attrs-short t (c .before .before .before .before .before .before .before .before) .0) (attrs-short t (c .before .before .before .before .before .before .before .before) .1) (sym ((c .before .starts-with) .ensures) ∙ (c .if1) .taken) d a u ((c .before .before .before .loop) .inv .4 f d a u h e))
+
 attrs-sub-attribute : (t : ℕ) → attrs-lts.Need-sub-attribute (attrs-claims t) (attrs-at t) attrs.Post attrs-Inv-loop attrs-μ-loop
-attrs-sub-attribute t c = (c .loop) .inv .0
+attrs-sub-attribute t c = (c .before .before .before .loop) .inv .0
 
 attrs-part-attribute-start : (t : ℕ) → attrs-lts.Need-part-attribute-start (attrs-claims t) (attrs-at t) attrs.Post attrs-Inv-loop attrs-μ-loop
-attrs-part-attribute-start t c = omega (arith, (c .loop) .inv .0)
+attrs-part-attribute-start t c = omega (arith, (c .before .before .before .loop) .inv .0)
 
 attrs-part-attribute-end : (t : ℕ) → attrs-lts.Need-part-attribute-end (attrs-claims t) (attrs-at t) attrs.Post attrs-Inv-loop attrs-μ-loop
 attrs-part-attribute-end t c = search needs
 
 attrs-attribute-requires : (t : ℕ) → attrs-lts.Need-attribute-requires (attrs-claims t) (attrs-at t) attrs.Post attrs-Inv-loop attrs-μ-loop
-attrs-attribute-requires t c κs = (omega (arith, part-size ((c .before .before .before .loop) .i) ((c .before .before .before .before .before .before .before .before .args) .tape .now), (c .before .before .before .before .before .before .before .before .pre) .0), ((c .before .before .before .before .before .before .before .before .pre) .1 .0, (c .before .before .before .before .before .before .before .before .pre) .1 .1))
+attrs-attribute-requires t c κs = (omega (arith, part-size ((c .before .before .before .before .before .before .loop) .i) ((c .before .before .before .before .before .before .before .before .before .before .before .args) .tape .now), (c .before .before .before .before .before .before .before .before .before .before .before .pre) .0), ((c .before .before .before .before .before .before .before .before .before .before .before .pre) .1 .0, (c .before .before .before .before .before .before .before .before .before .before .before .pre) .1 .1))
 
 attrs-newer-requires : (t : ℕ) → attrs-lts.Need-newer-requires (attrs-claims t) (attrs-at t) attrs.Post attrs-Inv-loop attrs-μ-loop
-attrs-newer-requires t c κs = omega (arith, (c .before .before .before .before .before .before .before .before .before .before .before .before .before .before), (c .before .before .before .before .before .attribute) .ensures .0 .0 .inside, (c .before .before .before .before .before .attribute) .ensures .0 .1, part-size ((c .before .before .before .before .before .before .before .before .before .loop) .i) ((c .before .before .before .before .before .before .before .before .before .before .before .before .before .before .args) .tape .now), (c .before .before .before .before .before .before .before .before .before .loop) .inv .0)
+attrs-newer-requires t c κs = omega (arith, (c .before .before .before .before .before .before .before .before .before .before .before .before .before .before .before .before .before), (c .before .before .before .before .before .attribute) .ensures .0 .0 .inside, (c .before .before .before .before .before .attribute) .ensures .0 .1, part-size ((c .before .before .before .before .before .before .before .before .before .before .before .before .loop) .i) ((c .before .before .before .before .before .before .before .before .before .before .before .before .before .before .before .before .before .args) .tape .now), (c .before .before .before .before .before .before .before .before .before .before .before .before .loop) .inv .0)
 
 attrs-add-i : (t : ℕ) → attrs-lts.Need-add-i (attrs-claims t) (attrs-at t) attrs.Post attrs-Inv-loop attrs-μ-loop
-attrs-add-i t c = omega (arith, (c .before .before .before .before .before .before .before .before .before .before .before .before .before .before .before .before .before), (c .before .before .before .before .before .before .before .before .attribute) .ensures .0 .0 .inside, part-size ((c .before .before .before .before .before .before .before .before .before .before .before .before .loop) .i) ((c .before .before .before .before .before .before .before .before .before .before .before .before .before .before .before .before .before .args) .tape .now), (c .before .before .before .before .before .before .before .before .before .before .before .before .loop) .inv .0)
+attrs-add-i t c = omega (arith, (c .before .before .before .before .before .before .before .before .before .before .before .before .before .before .before .before .before .before .before .before), (c .before .before .before .before .before .before .before .before .attribute) .ensures .0 .0 .inside, part-size ((c .before .before .before .before .before .before .before .before .before .before .before .before .before .before .before .loop) .i) ((c .before .before .before .before .before .before .before .before .before .before .before .before .before .before .before .before .before .before .before .before .args) .tape .now), (c .before .before .before .before .before .before .before .before .before .before .before .before .before .before .before .loop) .inv .0)
 
-attrs-same-length : (t : ℕ) → attrs-lts.Need-same-length (attrs-claims t) (attrs-at t) attrs.Post attrs-Inv-loop attrs-μ-loop
-attrs-same-length t c = (c .before .before .before .before .before .before .before .before .before .attribute) .kept .1 .1 .1 .1 .1 .0 ∙ (c .before .before .before .before .before .before .before .before .before .before .before .before .before .loop) .inv .2
+attrs-same-length-3 : (t : ℕ) → attrs-lts.Need-same-length-3 (attrs-claims t) (attrs-at t) attrs.Post attrs-Inv-loop attrs-μ-loop
+attrs-same-length-3 t c = (c .before .before .before .before .before .before .before .before .before .attribute) .kept .1 .1 .1 .1 .1 .0 ∙ (c .before .before .before .before .before .before .before .before .before .before .before .before .before .before .before .before .loop) .inv .2
 
-attrs-same-length-2 : (t : ℕ) → attrs-lts.Need-same-length-2 (attrs-claims t) (attrs-at t) attrs.Post attrs-Inv-loop attrs-μ-loop
-attrs-same-length-2 t c = (c .before .before .before .before .before .before .before .before .before .attribute) .kept .1 .1 .1 .1 .1 .1 .0 ∙ (c .before .before .before .before .before .before .before .before .before .before .before .before .before .loop) .inv .3
+attrs-same-length-4 : (t : ℕ) → attrs-lts.Need-same-length-4 (attrs-claims t) (attrs-at t) attrs.Post attrs-Inv-loop attrs-μ-loop
+attrs-same-length-4 t c = (c .before .before .before .before .before .before .before .before .before .attribute) .kept .1 .1 .1 .1 .1 .1 .0 ∙ (c .before .before .before .before .before .before .before .before .before .before .before .before .before .before .before .before .loop) .inv .3
 
-attrs-returns : (t : ℕ) → attrs-lts.Need-returns (attrs-claims t) (attrs-at t) attrs.Post attrs-Inv-loop attrs-μ-loop
-attrs-returns t c = ((omega (arith, (c .before .before .before .before .before .before .before .before .before .attribute) .ensures .0 .0 .inside, part-size ((c .before .before .before .before .before .before .before .before .before .before .before .before .before .loop) .i) ((c .before .before .before .before .before .before .before .before .before .before .before .before .before .before .before .before .before .before .args) .tape .now), (c .before .before .before .before .before .before .before .before .before .before .before .before .before .loop) .inv .0), key-within (length ((c .before .before .before .before .before .before .before .before .before .before .before .before .before .before .before .before .before .before .args) .tape .now)) ((c .before .before .before .before .before .before .before .before .before .before .before .before .before .loop) .i) ((c .before .before .before .before .before .before .before .before .before .before .before .before .before .loop) .key) _ _ _ ((c .before .before .before .before .before .before .before .before .before .before .before .before .before .loop) .inv .0) ((c .before .before .before .before .before .before .before .before .before .before .before .before .before .loop) .inv .1) ((c .before .before .before .before .before .before .before .before .before .attribute) .ensures .0 .1) (omega (arith, (c .before .before .before .before .before .before .before .before .before .attribute) .ensures .0 .0 .inside, part-size ((c .before .before .before .before .before .before .before .before .before .before .before .before .before .loop) .i) ((c .before .before .before .before .before .before .before .before .before .before .before .before .before .before .before .before .before .before .args) .tape .now))) ((c .before .before .before .newer) .ensures)), λ f d a u h e. left-done _ _ ((c .before .before .before .before .before .before .before .before .before .before .before .before .before .before .before .before .before .before .args) .tape .now) _ ((c .before .before .before .before .before .before .before .before .before .before .before .before .before .loop) .inv .0) (attrs-short t (c .before .before .before .before .before .before .before .before .before .before .before .before .before .before .before .before .before .before) .0) (attrs-short t (c .before .before .before .before .before .before .before .before .before .before .before .before .before .before .before .before .before .before) .1) ((c .before .before .before .before .before .before .before .before .before .attribute) .ensures .1) ((c .before .before .before .newer) .ensures) d a u ((c .before .before .before .before .before .before .before .before .before .before .before .before .before .loop) .inv .4 f d a u h e) ((c .if1) .taken))
+attrs-returns-2 : (t : ℕ) → attrs-lts.Need-returns-2 (attrs-claims t) (attrs-at t) attrs.Post attrs-Inv-loop attrs-μ-loop
+attrs-returns-2 t c = ((omega (arith, (c .before .before .before .before .before .before .before .before .before .attribute) .ensures .0 .0 .inside, part-size ((c .before .before .before .before .before .before .before .before .before .before .before .before .before .before .before .before .loop) .i) ((c .before .before .before .before .before .before .before .before .before .before .before .before .before .before .before .before .before .before .before .before .before .args) .tape .now), (c .before .before .before .before .before .before .before .before .before .before .before .before .before .before .before .before .loop) .inv .0), key-within (length ((c .before .before .before .before .before .before .before .before .before .before .before .before .before .before .before .before .before .before .before .before .before .args) .tape .now)) ((c .before .before .before .before .before .before .before .before .before .before .before .before .before .before .before .before .loop) .i) ((c .before .before .before .before .before .before .before .before .before .before .before .before .before .before .before .before .loop) .key) _ _ _ ((c .before .before .before .before .before .before .before .before .before .before .before .before .before .before .before .before .loop) .inv .0) ((c .before .before .before .before .before .before .before .before .before .before .before .before .before .before .before .before .loop) .inv .1) ((c .before .before .before .before .before .before .before .before .before .attribute) .ensures .0 .1) (omega (arith, (c .before .before .before .before .before .before .before .before .before .attribute) .ensures .0 .0 .inside, part-size ((c .before .before .before .before .before .before .before .before .before .before .before .before .before .before .before .before .loop) .i) ((c .before .before .before .before .before .before .before .before .before .before .before .before .before .before .before .before .before .before .before .before .before .args) .tape .now))) ((c .before .before .before .newer) .ensures)), λ f d a u h e. left-done _ _ ((c .before .before .before .before .before .before .before .before .before .before .before .before .before .before .before .before .before .before .before .before .before .args) .tape .now) _ ((c .before .before .before .before .before .before .before .before .before .before .before .before .before .before .before .before .loop) .inv .0) (attrs-short t (c .before .before .before .before .before .before .before .before .before .before .before .before .before .before .before .before .before .before .before .before .before) .0) (attrs-short t (c .before .before .before .before .before .before .before .before .before .before .before .before .before .before .before .before .before .before .before .before .before) .1) ((c .before .before .before .before .before .before .before .before .before .attribute) .ensures .1) ((c .before .before .before .newer) .ensures) d a u ((c .before .before .before .before .before .before .before .before .before .before .before .before .before .before .before .before .loop) .inv .4 f d a u h e) ((c .if2) .taken))
 
 attrs-loop-less : (t : ℕ) → attrs-lts.Need-loop-less (attrs-claims t) (attrs-at t) attrs.Post attrs-Inv-loop attrs-μ-loop
-attrs-loop-less t c = omega (arith, (c .before .before .before .before .before .before .before .before .before .attribute) .ensures .0 .0 .inside, (c .before .before .before .before .before .before .before .before .before .attribute) .ensures .0 .0 .onward ((c .if1) .left), part-size ((c .before .before .before .before .before .before .before .before .before .before .before .before .before .loop) .i) ((c .before .before .before .before .before .before .before .before .before .before .before .before .before .before .before .before .before .before .args) .tape .now), (c .before .before .before .before .before .before .before .before .before .before .before .before .before .loop) .inv .0)
+attrs-loop-less t c = omega (arith, (c .before .before .before .before .before .before .before .before .before .attribute) .ensures .0 .0 .inside, (c .before .before .before .before .before .before .before .before .before .attribute) .ensures .0 .0 .onward ((c .if2) .left), part-size ((c .before .before .before .before .before .before .before .before .before .before .before .before .before .before .before .before .loop) .i) ((c .before .before .before .before .before .before .before .before .before .before .before .before .before .before .before .before .before .before .before .before .before .args) .tape .now), (c .before .before .before .before .before .before .before .before .before .before .before .before .before .before .before .before .loop) .inv .0)
 
 attrs-loop-again : (t : ℕ) → attrs-lts.Need-loop-again (attrs-claims t) (attrs-at t) attrs.Post attrs-Inv-loop attrs-μ-loop
-attrs-loop-again t c = (omega (arith, (c .before .before .before .before .before .before .before .before .before .attribute) .ensures .0 .0 .inside, part-size ((c .before .before .before .before .before .before .before .before .before .before .before .before .before .loop) .i) ((c .before .before .before .before .before .before .before .before .before .before .before .before .before .before .before .before .before .before .args) .tape .now), (c .before .before .before .before .before .before .before .before .before .before .before .before .before .loop) .inv .0), key-within (length ((c .before .before .before .before .before .before .before .before .before .before .before .before .before .before .before .before .before .before .args) .tape .now)) ((c .before .before .before .before .before .before .before .before .before .before .before .before .before .loop) .i) ((c .before .before .before .before .before .before .before .before .before .before .before .before .before .loop) .key) _ _ _ ((c .before .before .before .before .before .before .before .before .before .before .before .before .before .loop) .inv .0) ((c .before .before .before .before .before .before .before .before .before .before .before .before .before .loop) .inv .1) ((c .before .before .before .before .before .before .before .before .before .attribute) .ensures .0 .1) (omega (arith, (c .before .before .before .before .before .before .before .before .before .attribute) .ensures .0 .0 .inside, part-size ((c .before .before .before .before .before .before .before .before .before .before .before .before .before .loop) .i) ((c .before .before .before .before .before .before .before .before .before .before .before .before .before .before .before .before .before .before .args) .tape .now))) ((c .before .before .before .newer) .ensures), (c .before .before .before .before .before .before .before .before .before .attribute) .kept .1 .1 .1 .1 .1 .0 ∙ (c .before .before .before .before .before .before .before .before .before .before .before .before .before .loop) .inv .2, (c .before .before .before .before .before .before .before .before .before .attribute) .kept .1 .1 .1 .1 .1 .1 .0 ∙ (c .before .before .before .before .before .before .before .before .before .before .before .before .before .loop) .inv .3, λ f d a u h e. left-more _ _ ((c .before .before .before .before .before .before .before .before .before .before .before .before .before .before .before .before .before .before .args) .tape .now) _ ((c .before .before .before .before .before .before .before .before .before .before .before .before .before .loop) .inv .0) (attrs-short t (c .before .before .before .before .before .before .before .before .before .before .before .before .before .before .before .before .before .before) .0) (attrs-short t (c .before .before .before .before .before .before .before .before .before .before .before .before .before .before .before .before .before .before) .1) ((c .before .before .before .before .before .before .before .before .before .attribute) .ensures .1) ((c .before .before .before .newer) .ensures) d a u ((c .before .before .before .before .before .before .before .before .before .before .before .before .before .loop) .inv .4 f d a u h e) ((c .if1) .left) ((c .before .before .before .before .before .before .before .before .before .attribute) .ensures .0 .0 .onward ((c .if1) .left)))
+attrs-loop-again t c = (omega (arith, (c .before .before .before .before .before .before .before .before .before .attribute) .ensures .0 .0 .inside, part-size ((c .before .before .before .before .before .before .before .before .before .before .before .before .before .before .before .before .loop) .i) ((c .before .before .before .before .before .before .before .before .before .before .before .before .before .before .before .before .before .before .before .before .before .args) .tape .now), (c .before .before .before .before .before .before .before .before .before .before .before .before .before .before .before .before .loop) .inv .0), key-within (length ((c .before .before .before .before .before .before .before .before .before .before .before .before .before .before .before .before .before .before .before .before .before .args) .tape .now)) ((c .before .before .before .before .before .before .before .before .before .before .before .before .before .before .before .before .loop) .i) ((c .before .before .before .before .before .before .before .before .before .before .before .before .before .before .before .before .loop) .key) _ _ _ ((c .before .before .before .before .before .before .before .before .before .before .before .before .before .before .before .before .loop) .inv .0) ((c .before .before .before .before .before .before .before .before .before .before .before .before .before .before .before .before .loop) .inv .1) ((c .before .before .before .before .before .before .before .before .before .attribute) .ensures .0 .1) (omega (arith, (c .before .before .before .before .before .before .before .before .before .attribute) .ensures .0 .0 .inside, part-size ((c .before .before .before .before .before .before .before .before .before .before .before .before .before .before .before .before .loop) .i) ((c .before .before .before .before .before .before .before .before .before .before .before .before .before .before .before .before .before .before .before .before .before .args) .tape .now))) ((c .before .before .before .newer) .ensures), (c .before .before .before .before .before .before .before .before .before .attribute) .kept .1 .1 .1 .1 .1 .0 ∙ (c .before .before .before .before .before .before .before .before .before .before .before .before .before .before .before .before .loop) .inv .2, (c .before .before .before .before .before .before .before .before .before .attribute) .kept .1 .1 .1 .1 .1 .1 .0 ∙ (c .before .before .before .before .before .before .before .before .before .before .before .before .before .before .before .before .loop) .inv .3, λ f d a u h e. left-more _ _ ((c .before .before .before .before .before .before .before .before .before .before .before .before .before .before .before .before .before .before .before .before .before .args) .tape .now) _ ((c .before .before .before .before .before .before .before .before .before .before .before .before .before .before .before .before .loop) .inv .0) (attrs-short t (c .before .before .before .before .before .before .before .before .before .before .before .before .before .before .before .before .before .before .before .before .before) .0) (attrs-short t (c .before .before .before .before .before .before .before .before .before .before .before .before .before .before .before .before .before .before .before .before .before) .1) ((c .before .before .before .before .before .before .before .before .before .attribute) .ensures .1) ((c .before .before .before .newer) .ensures) d a u ((c .before .before .before .before .before .before .before .before .before .before .before .before .before .before .before .before .loop) .inv .4 f d a u h e) ((c .if2) .left) ((c .before .before .before .before .before .before .before .before .before .attribute) .ensures .0 .0 .onward ((c .if2) .left)))
 
 automatic-short : (t : ℕ) (c : automatic-lts.Start (automatic-claims t) (automatic-at t) automatic.Post)
     → (length (c .args .calls .now) ≤ 2 ^ 63) × (length (c .args .notices .now) ≤ 2 ^ 63) × (length (c .args .tape .now) ≤ 2 ^ 63)
@@ -845,39 +871,63 @@ children-μ-loop text settings allowed tape calls₀ notices₀ i₀ next₀ cou
 children-loop-holds : (t : ℕ) → children-lts.Need-loop-holds (children-claims t) (children-at t) children.Post children-Inv-loop children-μ-loop
 children-loop-holds t c = kids-start _ _ _ _ _
 
+children-sub-starts-with : (t : ℕ) → children-lts.Need-sub-starts-with (children-claims t) (children-at t) children.Post children-Inv-loop children-μ-loop
+children-sub-starts-with t c = omega (arith, (c .loop) .inv .inside)
+
+children-part-starts-with-start : (t : ℕ) → children-lts.Need-part-starts-with-start (children-claims t) (children-at t) children.Post children-Inv-loop children-μ-loop
+children-part-starts-with-start t c = omega (arith, (c .loop) .inv .inside)
+
+children-part-starts-with-end : (t : ℕ) → children-lts.Need-part-starts-with-end (children-claims t) (children-at t) children.Post children-Inv-loop children-μ-loop
+children-part-starts-with-end t c = search needs
+
+children-starts-with-requires : (t : ℕ) → children-lts.Need-starts-with-requires (children-claims t) (children-at t) children.Post children-Inv-loop children-μ-loop
+children-starts-with-requires t c κs = search needs
+
+children-add-t18 : (t : ℕ) → children-lts.Need-add-t18 (children-claims t) (children-at t) children.Post children-Inv-loop children-μ-loop
+children-add-t18 t c = omega (arith, (c .before .before .before .before .before .before .before .before), (c .before .before .before .loop) .inv .inside)
+
+children-same-length : (t : ℕ) → children-lts.Need-same-length (children-claims t) (children-at t) children.Post children-Inv-loop children-μ-loop
+children-same-length t c = (c .before .before .before .loop) .inv .same
+
+children-same-length-2 : (t : ℕ) → children-lts.Need-same-length-2 (children-claims t) (children-at t) children.Post children-Inv-loop children-μ-loop
+children-same-length-2 t c = (c .before .before .before .loop) .inv .same′
+
+children-returns : (t : ℕ) → children-lts.Need-returns (children-claims t) (children-at t) children.Post children-Inv-loop children-μ-loop
+children-returns t c = ((omega (arith, some-there 0x1f _ (sym ((c .before .starts-with) .ensures) ∙ (c .if1) .taken), part-size ((c .before .before .before .loop) .i) ((c .before .before .before .before .before .before .before .before .args) .tape .now), (c .before .before .before .loop) .inv .inside), omega (arith, (c .before .before .before .loop) .inv .few, (c .before .before .before .loop) .inv .inside)), kids-over (context ((c .before .before .before .before .before .before .before .before .args) .text .now) ((c .before .before .before .before .before .before .before .before .args) .brief) ((c .before .before .before .before .before .before .before .before .args) .allowed)) ((c .before .before .before .before .before .before .before .before .args) .tape .now) ((c .before .before .before .loop) .inv) _ (tail-part ((c .before .before .before .before .before .before .before .before .args) .tape .now) ((c .before .before .before .loop) .i)) (omega (arith, c .before .before .before .before .before .before .before .before)) (omega (arith, c .before .before .before .before .before .before .before .before)) (sym ((c .before .starts-with) .ensures) ∙ (c .if1) .taken))
+
 children-sub-transform-jsx-child : (t : ℕ) → children-lts.Need-sub-transform-jsx-child (children-claims t) (children-at t) children.Post children-Inv-loop children-μ-loop
-children-sub-transform-jsx-child t c = omega (arith, (c .loop) .inv .inside)
+children-sub-transform-jsx-child t c = omega (arith, (c .before .before .before .loop) .inv .inside)
 
 children-part-transform-jsx-child-start :
     (t : ℕ) → children-lts.Need-part-transform-jsx-child-start (children-claims t) (children-at t) children.Post children-Inv-loop children-μ-loop
-children-part-transform-jsx-child-start t c = omega (arith, (c .loop) .inv .inside)
+children-part-transform-jsx-child-start t c = omega (arith, (c .before .before .before .loop) .inv .inside)
 
 children-part-transform-jsx-child-end : (t : ℕ) → children-lts.Need-part-transform-jsx-child-end (children-claims t) (children-at t) children.Post children-Inv-loop children-μ-loop
 children-part-transform-jsx-child-end t c = search needs
 
 children-transform-jsx-child-requires : (t : ℕ) → children-lts.Need-transform-jsx-child-requires (children-claims t) (children-at t) children.Post children-Inv-loop children-μ-loop
-children-transform-jsx-child-requires t c κs = (omega (arith, (c .before .before .before .loop) .inv .inside, part-length ((c .before .before .before .loop) .i) ((c .before .before .before .before .before .before .before .before .args) .tape .now)), search needs)
+children-transform-jsx-child-requires t c κs = (omega (arith, (c .before .before .before .before .before .before .loop) .inv .inside, part-length ((c .before .before .before .before .before .before .loop) .i) ((c .before .before .before .before .before .before .before .before .before .before .before .args) .tape .now)), search needs)
 
 children-add-count : (t : ℕ) → children-lts.Need-add-count (children-claims t) (children-at t) children.Post children-Inv-loop children-μ-loop
-children-add-count t c = omega (arith, (c .before .before .before .before .before .before .before .before .before .before .before .before .before .before .before), kids-fit (context ((c .before .before .before .before .before .before .before .before .before .before .before .before .before .before .before .args) .text .now) ((c .before .before .before .before .before .before .before .before .before .before .before .before .before .before .before .args) .brief) ((c .before .before .before .before .before .before .before .before .before .before .before .before .before .before .before .args) .allowed)) ((c .before .before .before .before .before .before .before .before .before .before .before .before .before .before .before .args) .tape .now) ((c .before .before .before .before .before .before .before .before .before .before .loop) .inv) _ (tail-part ((c .before .before .before .before .before .before .before .before .before .before .before .before .before .before .before .args) .tape .now) ((c .before .before .before .before .before .before .before .before .before .before .loop) .i)) ((c .before .before .before .before .before .before .transform-jsx-child) .result) ((c .before .before .before .before .before .before .transform-jsx-child) .ensures .0 .0) ((c .before .before .before .before .before .before .transform-jsx-child) .ensures .0 .1))
+children-add-count t c = omega (arith, (c .before .before .before .before .before .before .before .before .before .before .before .before .before .before .before .before .before .before), kids-fit (context ((c .before .before .before .before .before .before .before .before .before .before .before .before .before .before .before .before .before .before .args) .text .now) ((c .before .before .before .before .before .before .before .before .before .before .before .before .before .before .before .before .before .before .args) .brief) ((c .before .before .before .before .before .before .before .before .before .before .before .before .before .before .before .before .before .before .args) .allowed)) ((c .before .before .before .before .before .before .before .before .before .before .before .before .before .before .before .before .before .before .args) .tape .now) ((c .before .before .before .before .before .before .before .before .before .before .before .before .before .loop) .inv) _ (tail-part ((c .before .before .before .before .before .before .before .before .before .before .before .before .before .before .before .before .before .before .args) .tape .now) ((c .before .before .before .before .before .before .before .before .before .before .before .before .before .loop) .i)) ((c .before .before .before .before .before .before .transform-jsx-child) .result) ((c .before .before .before .before .before .before .transform-jsx-child) .ensures .0 .0) ((c .before .before .before .before .before .before .transform-jsx-child) .ensures .0 .1))
 
 children-add-i : (t : ℕ) → children-lts.Need-add-i (children-claims t) (children-at t) children.Post children-Inv-loop children-μ-loop
-children-add-i t c = omega (arith, (c .before .before .before .before .before .before .before .before .before .before .before .before .before .before .before .before .before), kid-fits (context ((c .before .before .before .before .before .before .before .before .before .before .before .before .before .before .before .before .before .args) .text .now) ((c .before .before .before .before .before .before .before .before .before .before .before .before .before .before .before .before .before .args) .brief) ((c .before .before .before .before .before .before .before .before .before .before .before .before .before .before .before .before .before .args) .allowed)) ((c .before .before .before .before .before .before .before .before .before .before .before .before .before .before .before .before .before .args) .tape .now) ((c .before .before .before .before .before .before .before .before .before .before .before .before .loop) .inv) _ (tail-part ((c .before .before .before .before .before .before .before .before .before .before .before .before .before .before .before .before .before .args) .tape .now) ((c .before .before .before .before .before .before .before .before .before .before .before .before .loop) .i)) ((c .before .before .before .before .before .before .before .before .transform-jsx-child) .result) ((c .before .before .before .before .before .before .before .before .transform-jsx-child) .ensures .0 .0) ((c .before .before .before .before .before .before .before .before .transform-jsx-child) .ensures .0 .1))
+children-add-i t c = omega (arith, (c .before .before .before .before .before .before .before .before .before .before .before .before .before .before .before .before .before .before .before .before), kid-fits (context ((c .before .before .before .before .before .before .before .before .before .before .before .before .before .before .before .before .before .before .before .before .args) .text .now) ((c .before .before .before .before .before .before .before .before .before .before .before .before .before .before .before .before .before .before .before .before .args) .brief) ((c .before .before .before .before .before .before .before .before .before .before .before .before .before .before .before .before .before .before .before .before .args) .allowed)) ((c .before .before .before .before .before .before .before .before .before .before .before .before .before .before .before .before .before .before .before .before .args) .tape .now) ((c .before .before .before .before .before .before .before .before .before .before .before .before .before .before .before .loop) .inv) _ (tail-part ((c .before .before .before .before .before .before .before .before .before .before .before .before .before .before .before .before .before .before .before .before .args) .tape .now) ((c .before .before .before .before .before .before .before .before .before .before .before .before .before .before .before .loop) .i)) ((c .before .before .before .before .before .before .before .before .transform-jsx-child) .result) ((c .before .before .before .before .before .before .before .before .transform-jsx-child) .ensures .0 .0) ((c .before .before .before .before .before .before .before .before .transform-jsx-child) .ensures .0 .1))
 
-children-same-length : (t : ℕ) → children-lts.Need-same-length (children-claims t) (children-at t) children.Post children-Inv-loop children-μ-loop
-children-same-length t c = ((c .before .before .before .before .before .before .before .before .before .transform-jsx-child) .kept .1 .1 .1 .1 .0) ∙ (c .before .before .before .before .before .before .before .before .before .before .before .before .before .loop) .inv .same
+children-same-length-3 : (t : ℕ) → children-lts.Need-same-length-3 (children-claims t) (children-at t) children.Post children-Inv-loop children-μ-loop
+children-same-length-3 t c = ((c .before .before .before .before .before .before .before .before .before .transform-jsx-child) .kept .1 .1 .1 .1 .0) ∙ (c .before .before .before .before .before .before .before .before .before .before .before .before .before .before .before .before .loop) .inv .same
 
-children-same-length-2 : (t : ℕ) → children-lts.Need-same-length-2 (children-claims t) (children-at t) children.Post children-Inv-loop children-μ-loop
-children-same-length-2 t c = ((c .before .before .before .before .before .before .before .before .before .transform-jsx-child) .kept .1 .1 .1 .1 .1 .0) ∙ (c .before .before .before .before .before .before .before .before .before .before .before .before .before .loop) .inv .same′
+children-same-length-4 : (t : ℕ) → children-lts.Need-same-length-4 (children-claims t) (children-at t) children.Post children-Inv-loop children-μ-loop
+children-same-length-4 t c = ((c .before .before .before .before .before .before .before .before .before .transform-jsx-child) .kept .1 .1 .1 .1 .1 .0) ∙ (c .before .before .before .before .before .before .before .before .before .before .before .before .before .before .before .before .loop) .inv .same′
 
-children-returns : (t : ℕ) → children-lts.Need-returns (children-claims t) (children-at t) children.Post children-Inv-loop children-μ-loop
-children-returns t c = ((kid-fits (context ((c .before .before .before .before .before .before .before .before .before .before .before .before .before .before .before .before .before .before .args) .text .now) ((c .before .before .before .before .before .before .before .before .before .before .before .before .before .before .before .before .before .before .args) .brief) ((c .before .before .before .before .before .before .before .before .before .before .before .before .before .before .before .before .before .before .args) .allowed)) ((c .before .before .before .before .before .before .before .before .before .before .before .before .before .before .before .before .before .before .args) .tape .now) ((c .before .before .before .before .before .before .before .before .before .before .before .before .before .loop) .inv) _ (tail-part ((c .before .before .before .before .before .before .before .before .before .before .before .before .before .before .before .before .before .before .args) .tape .now) ((c .before .before .before .before .before .before .before .before .before .before .before .before .before .loop) .i)) ((c .before .before .before .before .before .before .before .before .before .transform-jsx-child) .result) ((c .before .before .before .before .before .before .before .before .before .transform-jsx-child) .ensures .0 .0) ((c .before .before .before .before .before .before .before .before .before .transform-jsx-child) .ensures .0 .1), kids-fit (context ((c .before .before .before .before .before .before .before .before .before .before .before .before .before .before .before .before .before .before .args) .text .now) ((c .before .before .before .before .before .before .before .before .before .before .before .before .before .before .before .before .before .before .args) .brief) ((c .before .before .before .before .before .before .before .before .before .before .before .before .before .before .before .before .before .before .args) .allowed)) ((c .before .before .before .before .before .before .before .before .before .before .before .before .before .before .before .before .before .before .args) .tape .now) ((c .before .before .before .before .before .before .before .before .before .before .before .before .before .loop) .inv) _ (tail-part ((c .before .before .before .before .before .before .before .before .before .before .before .before .before .before .before .before .before .before .args) .tape .now) ((c .before .before .before .before .before .before .before .before .before .before .before .before .before .loop) .i)) ((c .before .before .before .before .before .before .before .before .before .transform-jsx-child) .result) ((c .before .before .before .before .before .before .before .before .before .transform-jsx-child) .ensures .0 .0) ((c .before .before .before .before .before .before .before .before .before .transform-jsx-child) .ensures .0 .1)), kids-end (context ((c .before .before .before .before .before .before .before .before .before .before .before .before .before .before .before .before .before .before .args) .text .now) ((c .before .before .before .before .before .before .before .before .before .before .before .before .before .before .before .before .before .before .args) .brief) ((c .before .before .before .before .before .before .before .before .before .before .before .before .before .before .before .before .before .before .args) .allowed)) ((c .before .before .before .before .before .before .before .before .before .before .before .before .before .before .before .before .before .before .args) .tape .now) ((c .before .before .before .before .before .before .before .before .before .before .before .before .before .loop) .inv) _ (tail-part ((c .before .before .before .before .before .before .before .before .before .before .before .before .before .before .before .before .before .before .args) .tape .now) ((c .before .before .before .before .before .before .before .before .before .before .before .before .before .loop) .i)) ((c .before .before .before .before .before .before .before .before .before .transform-jsx-child) .result) ((c .before .before .before .before .before .before .before .before .before .transform-jsx-child) .ensures .0 .0) ((c .before .before .before .before .before .before .before .before .before .transform-jsx-child) .ensures .0 .1) ((c .before .before .before .before .before .before .before .before .before .transform-jsx-child) .ensures .1) (omega (arith, (c .before .before .before .before .before .before .before .before .before .before .before .before .before .before .before .before .before .before))) (omega (arith, (c .before .before .before .before .before .before .before .before .before .before .before .before .before .before .before .before .before .before))) ((c .if1) .taken))
+children-returns-2 : (t : ℕ) → children-lts.Need-returns-2 (children-claims t) (children-at t) children.Post children-Inv-loop children-μ-loop
+children-returns-2 t c = ((kid-fits (context ((c .before .before .before .before .before .before .before .before .before .before .before .before .before .before .before .before .before .before .before .before .before .args) .text .now) ((c .before .before .before .before .before .before .before .before .before .before .before .before .before .before .before .before .before .before .before .before .before .args) .brief) ((c .before .before .before .before .before .before .before .before .before .before .before .before .before .before .before .before .before .before .before .before .before .args) .allowed)) ((c .before .before .before .before .before .before .before .before .before .before .before .before .before .before .before .before .before .before .before .before .before .args) .tape .now) ((c .before .before .before .before .before .before .before .before .before .before .before .before .before .before .before .before .loop) .inv) _ (tail-part ((c .before .before .before .before .before .before .before .before .before .before .before .before .before .before .before .before .before .before .before .before .before .args) .tape .now) ((c .before .before .before .before .before .before .before .before .before .before .before .before .before .before .before .before .loop) .i)) ((c .before .before .before .before .before .before .before .before .before .transform-jsx-child) .result) ((c .before .before .before .before .before .before .before .before .before .transform-jsx-child) .ensures .0 .0) ((c .before .before .before .before .before .before .before .before .before .transform-jsx-child) .ensures .0 .1), kids-fit (context ((c .before .before .before .before .before .before .before .before .before .before .before .before .before .before .before .before .before .before .before .before .before .args) .text .now) ((c .before .before .before .before .before .before .before .before .before .before .before .before .before .before .before .before .before .before .before .before .before .args) .brief) ((c .before .before .before .before .before .before .before .before .before .before .before .before .before .before .before .before .before .before .before .before .before .args) .allowed)) ((c .before .before .before .before .before .before .before .before .before .before .before .before .before .before .before .before .before .before .before .before .before .args) .tape .now) ((c .before .before .before .before .before .before .before .before .before .before .before .before .before .before .before .before .loop) .inv) _ (tail-part ((c .before .before .before .before .before .before .before .before .before .before .before .before .before .before .before .before .before .before .before .before .before .args) .tape .now) ((c .before .before .before .before .before .before .before .before .before .before .before .before .before .before .before .before .loop) .i)) ((c .before .before .before .before .before .before .before .before .before .transform-jsx-child) .result) ((c .before .before .before .before .before .before .before .before .before .transform-jsx-child) .ensures .0 .0) ((c .before .before .before .before .before .before .before .before .before .transform-jsx-child) .ensures .0 .1)), kids-end (context ((c .before .before .before .before .before .before .before .before .before .before .before .before .before .before .before .before .before .before .before .before .before .args) .text .now) ((c .before .before .before .before .before .before .before .before .before .before .before .before .before .before .before .before .before .before .before .before .before .args) .brief) ((c .before .before .before .before .before .before .before .before .before .before .before .before .before .before .before .before .before .before .before .before .before .args) .allowed)) ((c .before .before .before .before .before .before .before .before .before .before .before .before .before .before .before .before .before .before .before .before .before .args) .tape .now) ((c .before .before .before .before .before .before .before .before .before .before .before .before .before .before .before .before .loop) .inv) _ (tail-part ((c .before .before .before .before .before .before .before .before .before .before .before .before .before .before .before .before .before .before .before .before .before .args) .tape .now) ((c .before .before .before .before .before .before .before .before .before .before .before .before .before .before .before .before .loop) .i)) ((c .before .before .before .before .before .before .before .before .before .transform-jsx-child) .result) ((c .before .before .before .before .before .before .before .before .before .transform-jsx-child) .ensures .0 .0) ((c .before .before .before .before .before .before .before .before .before .transform-jsx-child) .ensures .0 .1) ((c .before .before .before .before .before .before .before .before .before .transform-jsx-child) .ensures .1) (omega (arith, (c .before .before .before .before .before .before .before .before .before .before .before .before .before .before .before .before .before .before .before .before .before))) (omega (arith, (c .before .before .before .before .before .before .before .before .before .before .before .before .before .before .before .before .before .before .before .before .before))) ((c .if2) .taken))
 
 children-loop-less : (t : ℕ) → children-lts.Need-loop-less (children-claims t) (children-at t) children.Post children-Inv-loop children-μ-loop
-children-loop-less t c = omega (arith, kid-fits (context ((c .before .before .before .before .before .before .before .before .before .before .before .before .before .before .before .before .before .before .args) .text .now) ((c .before .before .before .before .before .before .before .before .before .before .before .before .before .before .before .before .before .before .args) .brief) ((c .before .before .before .before .before .before .before .before .before .before .before .before .before .before .before .before .before .before .args) .allowed)) ((c .before .before .before .before .before .before .before .before .before .before .before .before .before .before .before .before .before .before .args) .tape .now) ((c .before .before .before .before .before .before .before .before .before .before .before .before .before .loop) .inv) _ (tail-part ((c .before .before .before .before .before .before .before .before .before .before .before .before .before .before .before .before .before .before .args) .tape .now) ((c .before .before .before .before .before .before .before .before .before .before .before .before .before .loop) .i)) ((c .before .before .before .before .before .before .before .before .before .transform-jsx-child) .result) ((c .before .before .before .before .before .before .before .before .before .transform-jsx-child) .ensures .0 .0) ((c .before .before .before .before .before .before .before .before .before .transform-jsx-child) .ensures .0 .1), (c .before .before .before .before .before .before .before .before .before .transform-jsx-child) .ensures .0 .0 .onward ((c .if1) .left))
+children-loop-less t c = omega (arith, kid-fits (context ((c .before .before .before .before .before .before .before .before .before .before .before .before .before .before .before .before .before .before .before .before .before .args) .text .now) ((c .before .before .before .before .before .before .before .before .before .before .before .before .before .before .before .before .before .before .before .before .before .args) .brief) ((c .before .before .before .before .before .before .before .before .before .before .before .before .before .before .before .before .before .before .before .before .before .args) .allowed)) ((c .before .before .before .before .before .before .before .before .before .before .before .before .before .before .before .before .before .before .before .before .before .args) .tape .now) ((c .before .before .before .before .before .before .before .before .before .before .before .before .before .before .before .before .loop) .inv) _ (tail-part ((c .before .before .before .before .before .before .before .before .before .before .before .before .before .before .before .before .before .before .before .before .before .args) .tape .now) ((c .before .before .before .before .before .before .before .before .before .before .before .before .before .before .before .before .loop) .i)) ((c .before .before .before .before .before .before .before .before .before .transform-jsx-child) .result) ((c .before .before .before .before .before .before .before .before .before .transform-jsx-child) .ensures .0 .0) ((c .before .before .before .before .before .before .before .before .before .transform-jsx-child) .ensures .0 .1), (c .before .before .before .before .before .before .before .before .before .transform-jsx-child) .ensures .0 .0 .onward ((c .if2) .left))
 
 children-loop-again : (t : ℕ) → children-lts.Need-loop-again (children-claims t) (children-at t) children.Post children-Inv-loop children-μ-loop
-children-loop-again t c = kids-go (context ((c .before .before .before .before .before .before .before .before .before .before .before .before .before .before .before .before .before .before .args) .text .now) ((c .before .before .before .before .before .before .before .before .before .before .before .before .before .before .before .before .before .before .args) .brief) ((c .before .before .before .before .before .before .before .before .before .before .before .before .before .before .before .before .before .before .args) .allowed)) ((c .before .before .before .before .before .before .before .before .before .before .before .before .before .before .before .before .before .before .args) .tape .now) ((c .before .before .before .before .before .before .before .before .before .before .before .before .before .loop) .inv) _ (tail-part ((c .before .before .before .before .before .before .before .before .before .before .before .before .before .before .before .before .before .before .args) .tape .now) ((c .before .before .before .before .before .before .before .before .before .before .before .before .before .loop) .i)) ((c .before .before .before .before .before .before .before .before .before .transform-jsx-child) .result) ((c .before .before .before .before .before .before .before .before .before .transform-jsx-child) .ensures .0 .0) ((c .before .before .before .before .before .before .before .before .before .transform-jsx-child) .ensures .0 .1) ((c .before .before .before .before .before .before .before .before .before .transform-jsx-child) .ensures .1) (omega (arith, (c .before .before .before .before .before .before .before .before .before .before .before .before .before .before .before .before .before .before))) (omega (arith, (c .before .before .before .before .before .before .before .before .before .before .before .before .before .before .before .before .before .before))) ((c .before .before .before .before .before .before .before .before .before .transform-jsx-child) .kept .1 .1 .1 .1 .0) ((c .before .before .before .before .before .before .before .before .before .transform-jsx-child) .kept .1 .1 .1 .1 .1 .0) ((c .if1) .left)
+children-loop-again t c = kids-go (context ((c .before .before .before .before .before .before .before .before .before .before .before .before .before .before .before .before .before .before .before .before .before .args) .text .now) ((c .before .before .before .before .before .before .before .before .before .before .before .before .before .before .before .before .before .before .before .before .before .args) .brief) ((c .before .before .before .before .before .before .before .before .before .before .before .before .before .before .before .before .before .before .before .before .before .args) .allowed)) ((c .before .before .before .before .before .before .before .before .before .before .before .before .before .before .before .before .before .before .before .before .before .args) .tape .now) ((c .before .before .before .before .before .before .before .before .before .before .before .before .before .before .before .before .loop) .inv) _ (tail-part ((c .before .before .before .before .before .before .before .before .before .before .before .before .before .before .before .before .before .before .before .before .before .args) .tape .now) ((c .before .before .before .before .before .before .before .before .before .before .before .before .before .before .before .before .loop) .i)) ((c .before .before .before .before .before .before .before .before .before .transform-jsx-child) .result) ((c .before .before .before .before .before .before .before .before .before .transform-jsx-child) .ensures .0 .0) ((c .before .before .before .before .before .before .before .before .before .transform-jsx-child) .ensures .0 .1) ((c .before .before .before .before .before .before .before .before .before .transform-jsx-child) .ensures .1) (omega (arith, (c .before .before .before .before .before .before .before .before .before .before .before .before .before .before .before .before .before .before .before .before .before))) (omega (arith, (c .before .before .before .before .before .before .before .before .before .before .before .before .before .before .before .before .before .before .before .before .before))) ((c .before .before .before .before .before .before .before .before .before .transform-jsx-child) .kept .1 .1 .1 .1 .0) ((c .before .before .before .before .before .before .before .before .before .transform-jsx-child) .kept .1 .1 .1 .1 .1 .0) ((c .if2) .left)
 
 create-short : (t : ℕ) (c : create-lts.Start (create-claims t) (create-at t) create.Post)
     → (length (c .args .calls .now) ≤ 2 ^ 63) × (length (c .args .notices .now) ≤ 2 ^ 63) × (length (c .args .tape .now) ≤ 2 ^ 63)
@@ -1535,15 +1585,23 @@ pub +argument+attribute+attrs+automatic+bare+bare-auto+behind+children+create+fr
     attrs-Inv-loop
     attrs-μ-loop
     (attrs-loop-holds t)
+    (attrs-sub-starts-with t)
+    (attrs-part-starts-with-start t)
+    (attrs-part-starts-with-end t)
+    (attrs-starts-with-requires t)
+    (attrs-add-t19 t)
+    (attrs-same-length t)
+    (attrs-same-length-2 t)
+    (attrs-returns t)
     (attrs-sub-attribute t)
     (attrs-part-attribute-start t)
     (attrs-part-attribute-end t)
     (attrs-attribute-requires t)
     (attrs-newer-requires t)
     (attrs-add-i t)
-    (attrs-same-length t)
-    (attrs-same-length-2 t)
-    (attrs-returns t)
+    (attrs-same-length-3 t)
+    (attrs-same-length-4 t)
+    (attrs-returns-2 t)
     (attrs-loop-less t)
     (attrs-loop-again t))
     (λ t. automatic-lts.spec (automatic-claims t)
@@ -1622,15 +1680,23 @@ pub +argument+attribute+attrs+automatic+bare+bare-auto+behind+children+create+fr
     children-Inv-loop
     children-μ-loop
     (children-loop-holds t)
+    (children-sub-starts-with t)
+    (children-part-starts-with-start t)
+    (children-part-starts-with-end t)
+    (children-starts-with-requires t)
+    (children-add-t18 t)
+    (children-same-length t)
+    (children-same-length-2 t)
+    (children-returns t)
     (children-sub-transform-jsx-child t)
     (children-part-transform-jsx-child-start t)
     (children-part-transform-jsx-child-end t)
     (children-transform-jsx-child-requires t)
     (children-add-count t)
     (children-add-i t)
-    (children-same-length t)
-    (children-same-length-2 t)
-    (children-returns t)
+    (children-same-length-3 t)
+    (children-same-length-4 t)
+    (children-returns-2 t)
     (children-loop-less t)
     (children-loop-again t))
     (λ t. create-lts.spec (create-claims t)
