@@ -1,23 +1,11 @@
--- The byte that tells settings in brief.
---     at-most        a flag's bit is no more than its value
---     byte-tells     the byte put together from flags and mode tells them: a table of all of them
+-- The byte that is put together from flags and a mode tells them: a table of all of them.
 -- Assumes nothing.
 use mathlib.Core.Path.{_≡_, refl}
 use mathlib.Core.Bool.{Bool, true, false, cond}
-use Prim.Native.Nat.{ℕ, _+_, _≤_}
-use native.Mathlib.Omega.{arith}
+use Prim.Native.Nat.{_+_}
 use Rattle.definitions.specs.declared.options.Mode.{Mode}
 use Rattle.definitions.specs.declared.options.Mode.the-variants.{Module, Script, Classic}
 use Rattle.emit.specs.Brief.{modeBits, settingsIn, outlined}
-
-pub at-most : (b : Bool) (n : ℕ) → cond b n 0 ≤ n
-at-most true n = omega arith
-at-most false n = omega arith
-
-pub mode-most : (m : Mode) → modeBits m ≤ 128
-mode-most Module = omega arith
-mode-most Script = omega arith
-mode-most Classic = omega arith
 
 pub byte-tells : (self source development throws pure : Bool) (m : Mode)
     → settingsIn (cond self 2 0 + cond source 4 0 + cond development 16 0 + cond throws 32 0 + cond pure 64 0 + modeBits m)

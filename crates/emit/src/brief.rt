@@ -1,19 +1,22 @@
 // What lowering asks of the settings, as one byte: it goes from call to call in a register, where the settings would be copied each time.
 ghost use mathlib.Core.Path.{_≡_};
 ghost use mathlib.Core.Bool.{cond};
-ghost use Rattle.emit.specs.Brief.{outline, modeIn, settingsIn, modeBits};
+ghost use Prim.Native.Nat.{_≤_};
+ghost use Rattle.emit.specs.Brief.{outline, settingsIn, modeBits};
 use definitions::options::Flags;
 use definitions::options::Mode;
 use definitions::options::Settings;
 
 fn flag(on: bool, bit: u8) -> u8
     ensures { λ r. ⌜ r ≡ cond on bit 0 ⌝ }
+    ensures { λ r. ⌜ r ≤ bit ⌝ }
 {
     if on { bit } else { 0 }
 }
 
 fn mode_bits(mode: Mode) -> u8
     ensures { λ r. ⌜ r ≡ modeBits mode ⌝ }
+    ensures { λ r. ⌜ r ≤ 128 ⌝ }
 {
     match mode {
         Mode::Module => 128,

@@ -2,9 +2,8 @@ use Prim.Native.Nat.{ℕ, suc, _≤_, _<_, _+_, _-_}
 use native.Mathlib.Omega.{arith}
 use mathlib.Core.Path.{_≡_, refl, sym, ap, subst, _∙_}
 use lib.ListN.{length, getD, take, drop}
-use mathlib.Core.Bool.{Bool, cond}
 use borrow.Author.Needs.{needs}
-use Rattle.emit.proofs.Bits.{at-most, mode-most, byte-tells}
+use Rattle.emit.proofs.Bits.{byte-tells}
 use Rattle.emit.proofs.brief.brief.Statement.{statement}
 use Rattle.emit.proofs.brief.brief.Tie as tie
 use Rattle.emit.proofs.brief.brief.Reads as reads
@@ -19,34 +18,34 @@ flag-requires-2 : tie.Need-flag-requires-2
 flag-requires-2 c κs = search needs
 
 add-result : tie.Need-add-result
-add-result c = omega (arith, (c .before .flag) .ensures, at-most ((c .before .before .before .before .args) .settings .options .flags .«self_plugin») 2, (c .flag2) .ensures, at-most ((c .before .before .before .before .args) .settings .options .flags .«source_plugin») 4)
+add-result c = omega (arith, (c .before .flag) .ensures .1, (c .flag2) .ensures .1)
 
 flag-requires-3 : tie.Need-flag-requires-3
 flag-requires-3 c κs = search needs
 
 add-result-2 : tie.Need-add-result-2
-add-result-2 c = omega (arith, (c .before .before .flag) .ensures, at-most ((c .before .before .before .before .before .args) .settings .options .flags .«self_plugin») 2, (c .before .flag2) .ensures, at-most ((c .before .before .before .before .before .args) .settings .options .flags .«source_plugin») 4, (c .flag3) .ensures, at-most ((c .before .before .before .before .before .args) .settings .options .flags .development) 16)
+add-result-2 c = omega (arith, (c .before .before .flag) .ensures .1, (c .before .flag2) .ensures .1, (c .flag3) .ensures .1)
 
 flag-requires-4 : tie.Need-flag-requires-4
 flag-requires-4 c κs = search needs
 
 add-result-3 : tie.Need-add-result-3
-add-result-3 c = omega (arith, (c .before .before .before .flag) .ensures, at-most ((c .before .before .before .before .before .before .args) .settings .options .flags .«self_plugin») 2, (c .before .before .flag2) .ensures, at-most ((c .before .before .before .before .before .before .args) .settings .options .flags .«source_plugin») 4, (c .before .flag3) .ensures, at-most ((c .before .before .before .before .before .before .args) .settings .options .flags .development) 16, (c .flag4) .ensures, at-most ((c .before .before .before .before .before .before .args) .settings .options .flags .«throw_if_namespace») 32)
+add-result-3 c = omega (arith, (c .before .before .before .flag) .ensures .1, (c .before .before .flag2) .ensures .1, (c .before .flag3) .ensures .1, (c .flag4) .ensures .1)
 
 flag-requires-5 : tie.Need-flag-requires-5
 flag-requires-5 c κs = search needs
 
 add-result-4 : tie.Need-add-result-4
-add-result-4 c = omega (arith, (c .before .before .before .before .flag) .ensures, at-most ((c .before .before .before .before .before .before .before .args) .settings .options .flags .«self_plugin») 2, (c .before .before .before .flag2) .ensures, at-most ((c .before .before .before .before .before .before .before .args) .settings .options .flags .«source_plugin») 4, (c .before .before .flag3) .ensures, at-most ((c .before .before .before .before .before .before .before .args) .settings .options .flags .development) 16, (c .before .flag4) .ensures, at-most ((c .before .before .before .before .before .before .before .args) .settings .options .flags .«throw_if_namespace») 32, (c .flag5) .ensures, at-most ((c .before .before .before .before .before .before .before .args) .settings .pure) 64)
+add-result-4 c = omega (arith, (c .before .before .before .before .flag) .ensures .1, (c .before .before .before .flag2) .ensures .1, (c .before .before .flag3) .ensures .1, (c .before .flag4) .ensures .1, (c .flag5) .ensures .1)
 
 mode-bits-requires : tie.Need-mode-bits-requires
 mode-bits-requires c κs = search needs
 
 add-result-5 : tie.Need-add-result-5
-add-result-5 c = omega (arith, (c .before .before .before .before .before .flag) .ensures, at-most ((c .before .before .before .before .before .before .before .before .args) .settings .options .flags .«self_plugin») 2, (c .before .before .before .before .flag2) .ensures, at-most ((c .before .before .before .before .before .before .before .before .args) .settings .options .flags .«source_plugin») 4, (c .before .before .before .flag3) .ensures, at-most ((c .before .before .before .before .before .before .before .before .args) .settings .options .flags .development) 16, (c .before .before .flag4) .ensures, at-most ((c .before .before .before .before .before .before .before .before .args) .settings .options .flags .«throw_if_namespace») 32, (c .before .flag5) .ensures, at-most ((c .before .before .before .before .before .before .before .before .args) .settings .pure) 64, (c .mode-bits) .ensures, mode-most ((c .before .before .before .before .before .before .before .before .args) .settings .mode))
+add-result-5 c = omega (arith, (c .before .before .before .before .before .flag) .ensures .1, (c .before .before .before .before .flag2) .ensures .1, (c .before .before .before .flag3) .ensures .1, (c .before .before .flag4) .ensures .1, (c .before .flag5) .ensures .1, (c .mode-bits) .ensures .1)
 
 returns : tie.Need-returns
-returns c = rw ((c .before .before .before .before .before .flag) .ensures, (c .before .before .before .before .flag2) .ensures, (c .before .before .before .flag3) .ensures, (c .before .before .flag4) .ensures, (c .before .flag5) .ensures, (c .mode-bits) .ensures) (byte-tells _ _ _ _ _ _)
+returns c = rw ((c .before .before .before .before .before .flag) .ensures .0, (c .before .before .before .before .flag2) .ensures .0, (c .before .before .before .flag3) .ensures .0, (c .before .before .flag4) .ensures .0, (c .before .flag5) .ensures .0, (c .mode-bits) .ensures .0) (byte-tells _ _ _ _ _ _)
 
 pub brief-spec : {M : Type 1} → statement M
 brief-spec =
