@@ -3,7 +3,6 @@ ghost use mathlib.Core.Path.{_≡_};
 ghost use mathlib.Core.Bool.{cond};
 ghost use Prim.Native.Nat.{_≤_};
 ghost use Rattle.emit.specs.Brief.{outline, settingsIn, modeBits};
-use definitions::options::Flags;
 use definitions::options::Mode;
 use definitions::options::Settings;
 
