@@ -7,6 +7,7 @@ fault is seen if what is written differs or the program breaks off. NUMBERS choo
 """
 
 import pathlib
+import re
 import shutil
 import subprocess
 import sys
@@ -87,11 +88,18 @@ FAULTS = [
 ]
 
 
+def renamed(text, before="", after=""):
+    """`rt try` hands every crate to every other as source, where the crate records and definitions' module of that name can't both stand."""
+    return re.sub(rf"{before}\brecords\b{after}", lambda found: found[0].replace("records", "record_tapes"), text)
+
+
 def copied(folder):
     names = [line.split(":")[0] for line in (TOP / "crates.txt").read_text().split("\n") if ":" in line and line[0] != "#"]
     for name in names:
-        shutil.copytree(TOP / "crates" / name / "src", folder / "crates" / name / "src")
-    shutil.copy(TOP / "crates.txt", folder / "crates.txt")
+        shutil.copytree(TOP / "crates" / name / "src", folder / "crates" / renamed(name) / "src")
+    for path in folder.glob("crates/*/src/**/*.rt"):
+        path.write_text(renamed(path.read_text(), "(?m)^use ", "::"))
+    (folder / "crates.txt").write_text(renamed((TOP / "crates.txt").read_text()))
     listed, answers = (TOP / "crates/replay/stdin").read_bytes(), (TOP / "crates/replay/stdout").read_text()
     full = next(case for case in limits(3) if len(case[1]) == 199 and len(case[2][0]) > len(case[2][1]) and len(case[2]) == 3)
     lines = [f"case {len(list(unpack(listed)))}"]
@@ -118,7 +126,7 @@ def main():
             sys.exit("the port without a fault differs already")
         for number in sorted(chosen):
             what, file, old, new = FAULTS[number]
-            path = folder / "crates" / file
+            path = folder / "crates" / renamed(file, "^", "/")
             right = path.read_text()
             if right.count(old) != 1:
                 sys.exit(f"{number} {what}: the text to change occurs {right.count(old)} times")
