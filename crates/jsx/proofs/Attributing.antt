@@ -31,7 +31,7 @@ use Rattle.parts.proofs.Inversions.{Behind, Within, attributes-end, attributes-
 use Rattle.jsx.proofs.Writing.{none, along, called}
 use Rattle.parts.specs.Promises.{startsWith}
 use Rattle.parts.proofs.Ends.{attributes-over}
-use Rattle.jsx.proofs.Turns.{Left, left-start, left-goes, left-ends}
+use Rattle.jsx.proofs.Turns.{Left, left-start, left-goes, left-ends, or-assoc, or-false}
 use Rattle.jsx.proofs.Lowerings.{KeySoFar, key-start, key-goes, key-passed, property-written, classic-property}
 
 -- `&t[n..]`
@@ -286,10 +286,6 @@ pub left-begin : (c : Context) (classic : Bool) (t cs ns : List ℕ) (p : Pen) (
 left-begin c classic t cs ns p f d a u h e =
     left-start (λ g l. attributesAt g (c .text) d l) (lowerAttributes c classic) t f a u cs ns p h e (record { flags = refl; keys = λ given. key-start c d t a given })
 
-or-assoc : (x y z : Bool) → (x || (y || z)) ≡ ((x || y) || z)
-or-assoc true y z = refl
-or-assoc false y z = refl
-
 pub key-within : (len i key k used now : ℕ) → i ≤ len → key ≤ len → k ≤ used → used ≤ len - i → now ≡ cond (eqb k 0) key (i + k) → now ≤ len
 key-within len i key k used now within kept h n e = rw e (go (eqb k 0))
   where
@@ -327,10 +323,6 @@ module _ (c : Context) (classic : Bool) (t : List ℕ) {cs₀ cs cs₁ ns₀ ns 
             let n : now ≡ key = newer ∙ ap (λ (q : ℕ). cond (eqb q 0) key (i + q)) (E .1) in
             rw (same, n) (k .place),
       )
-
-or-false : (x : Bool) → (x || false) ≡ x
-or-false true = refl
-or-false false = refl
 
 -- the end, seen by its first byte
 pub left-over : (c : Context) (classic : Bool) (t : List ℕ) {cs₀ cs ns₀ ns : List ℕ} {p₀ p : Pen} {i : ℕ} {some : Bool} {key : ℕ} → i ≤ length t

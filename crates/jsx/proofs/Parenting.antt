@@ -29,7 +29,7 @@ use Rattle.jsx.proofs.Nesting.{NodeFirst, children-end, children-wrong,
 use Rattle.jsx.proofs.Writing.{none, along, called, being, instead}
 use Rattle.parts.specs.Promises.{startsWith}
 use Rattle.parts.proofs.Ends.{children-over, some-there}
-use Rattle.jsx.proofs.Turns.{Left, left-start, left-goes, left-ends}
+use Rattle.jsx.proofs.Turns.{Left, left-start, left-goes, left-ends, or-assoc, or-false}
 use Rattle.jsx.proofs.Lowerings.{node-written, step-on, step-end, text-counts, expression-counts, empty-counts, spread-counts, node-counts, no-survivors, children-none, children-some}
 
 -- a place whose numbers are not the greatest
@@ -186,14 +186,6 @@ kids-start c t cs ns p =
           λ f d k u h e. left-start (λ g l. childrenAt g (c .text) d l) (lowerChildren c) t f k u cs ns p h e (record { counted = omega arith; spreads = refl });
     }
 
-or-assoc : (x y z : Bool) → ((x || y) || z) ≡ (x || (y || z))
-or-assoc true y z = refl
-or-assoc false y z = refl
-
-or-false : (x : Bool) → (x || false) ≡ x
-or-false true = refl
-or-false false = refl
-
 module _ (c : Context) (t : List ℕ) {cs₀ cs ns₀ ns : List ℕ} {p₀ p : Pen} {i count : ℕ} {spread : Bool} (K : KidsLeft c t cs₀ cs ns₀ ns p₀ p i count spread)
     (q : List ℕ) (here : q ≡ drop i t) (r : Items) (moves : Moves (length q) (r .used) (r .last)) (fewer : r .count ≤ r .used) where
   pub kid-fits : i + r .used ≤ length t
@@ -219,7 +211,7 @@ module _ (c : Context) (t : List ℕ) {cs₀ cs cs₁ ns₀ ns ns₁ : List ℕ}
             (moves .onward l)
             (λ g y z m G S. record {
               counted = omega (arith, S .counted, G .0);
-              spreads = S .spreads ∙ ap (λ (b : Bool). spread || b) (G .1) ∙ sym (or-assoc spread (r .spread) (hasSpread z));
+              spreads = S .spreads ∙ ap (λ (b : Bool). spread || b) (G .1) ∙ or-assoc spread (r .spread) (hasSpread z);
             });
       }
 

@@ -1,7 +1,7 @@
 -- A loop over a list on the tape: what is written so far, and what is left. One law for each way that a turn goes.
 -- Assumes nothing.
 use mathlib.Core.Path.{_≡_, refl, sym, ap, subst, _∙_}
-use mathlib.Core.Bool.{Bool, true, false}
+use mathlib.Core.Bool.{Bool, true, false, _||_}
 use mathlib.Core.List.{List, [], _++_, append-assoc}
 use Prim.Native.Nat.{ℕ, suc, _+_, _≤_, _<_, _^_}
 use native.Mathlib.Omega.{arith}
@@ -74,3 +74,13 @@ module _ {A : Type 0} (read : ℕ → List ℕ → Parsed A) (out : A → List O
           being (sym (R .outs ∙ ap (λ (l : List Output). R .sofar ++ l) k)) (along short short′ (R .wrote) w),
           keep (R .rest) m (R .also),
         )
+
+-- ---- flags put together on the way
+
+pub or-assoc : (x y z : Bool) → (x || (y || z)) ≡ ((x || y) || z)
+or-assoc true y z = refl
+or-assoc false y z = refl
+
+pub or-false : (x : Bool) → (x || false) ≡ x
+or-false true = refl
+or-false false = refl
