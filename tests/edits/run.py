@@ -1,92 +1,174 @@
 #!/usr/bin/env python3
-"""Edits beyond those of `rt ci` that the check must refuse too: python3 tests/edits/run.py [CRATE..]
+"""Edits that the check must refuse: python3 tests/edits/run.py [--logs] [CRATE..]
 
-An edit has the form of those in crates/CRATE/must-fail. It is applied to a copy of the repository, whose crates are proved first, and tried by
-`rt dev`, which proves again only what the edit changes. Two copies are worked on side by side. Prints where each edit was refused, and at the
-end how many were; the exit status is 1 if one was not.
+Tries those in tests/edits/CRATE on two copies of the repository, whose crates are proved first, by `rt dev`, which proves again only what an edit
+changes. Edits of different functions of a crate are tried together: a check tells every failing function by itself. An edit that was not shown as refused
+there, or that changes a definition, is tried alone. With --logs the logs that `rt ci` left of its own edits are judged too.
+
+An edit counts as refused only where the first error of what it concerns is a goal that doesn't hold (verdicts.py). Every exported function has two
+edits of its own at the least, here and in crates/CRATE/must-fail. Prints each edit with its verdict; the exit status is 1 if one was not refused.
 """
 
 import concurrent.futures
 import os
 import queue
-import re
 import shutil
 import subprocess
 import sys
 import tempfile
+import time
 
-HERE = os.path.dirname(os.path.abspath(__file__))
-ROOT = os.path.dirname(os.path.dirname(HERE))
+sys.dont_write_bytecode = True
+from edits import HERE, ROOT, libraries, of_crate, uncovered  # noqa: E402
+from functions import functions  # noqa: E402
+import verdicts  # noqa: E402
+
 SIDES = 2
 
 
-def edited(copy, crate, path):
-    """What the edit makes of the crate's files: file -> (before, after)."""
-    files, name, old = {}, None, None
-    for line in open(path, encoding="utf-8").read().split("\n"):
-        if line.startswith("file: "):
-            name = os.path.join(copy, "crates", crate, line[6:])
-            text = open(name, encoding="utf-8").read()
-            files.setdefault(name, (text, text))
-        elif line.startswith("old: "):
-            old = line[5:]
-        elif line.startswith("new:"):
-            before, after = files[name]
-            if after.count(old) != 1:
-                raise SystemExit(f"{path}: an old text is there {after.count(old)} times")
-            files[name] = (before, after.replace(old, line[5:]))
-    return files
+class Group:
+    """Edits that are tried together: at most one for each function. `texts` is what they make of the crate's files."""
+
+    def __init__(self, edit):
+        self.edits, self.touched, self.texts = [], set(), {}
+        if not self.takes(edit, set()):
+            raise SystemExit(f"{edit.label}: an old text is not there, or more than once")
+
+    def takes(self, edit, touched):
+        made = edit.applied(self.texts)
+        if made is None or touched & self.touched:
+            return False
+        self.edits.append(edit)
+        self.touched |= touched
+        self.texts.update(made)
+        return True
 
 
-def put(files, which):
-    for name, versions in files.items():
-        with open(name, "w", encoding="utf-8") as file:
-            file.write(versions[which])
+def grouped(edits, every):
+    """Groups of edits, and those that are tried alone: edits of definitions, contracts and types."""
+    groups, alone = [], []
+    for edit in edits:
+        touched = edit.concerns(every)
+        if not touched:
+            alone.append(Group(edit))
+        elif not any(group.takes(edit, touched) for group in groups):
+            groups.append(Group(edit))
+            groups[-1].touched |= touched
+    return groups, alone
 
 
-def dev(copy, crate):
+def copied(copy):
+    """The crates and what rt knows of them; the proved libraries, which are only read, are not copied."""
+    shutil.copytree(os.path.join(ROOT, "crates"), os.path.join(copy, "crates"))
+    shutil.copy(os.path.join(ROOT, "crates.txt"), copy)
+    for part in ("stamp", "log"):
+        shutil.copytree(os.path.join(ROOT, "target", part), os.path.join(copy, "target", part))
+    os.symlink(os.path.join(ROOT, "target", "rlib"), os.path.join(copy, "target", "rlib"))
+    return copy
+
+
+def check(copy, crate, group):
+    """What the check says of the crate with these edits."""
+    folder, before = os.path.join(copy, "crates", crate), {}
+    for name, text in group.texts.items():
+        with open(os.path.join(folder, name), encoding="utf-8") as file:
+            before[name] = file.read()
+        put(os.path.join(folder, name), text)
     done = subprocess.run(["rt", "dev", crate], cwd=copy, capture_output=True, text=True)
-    return done.returncode, done.stdout + done.stderr
+    for name, text in before.items():
+        put(os.path.join(folder, name), text)
+    return done.stdout + done.stderr
+
+
+def put(path, text):
+    with open(path, "w", encoding="utf-8") as file:
+        file.write(text)
+
+
+def judged(said, edit, every):
+    touched = edit.concerns(every)
+    if "\nlogic=" not in said:
+        return verdicts.Verdict("broken", "it did not reach the prover: " + said[:200])
+    if not touched:
+        return verdicts.of_definition(said)
+    found = [verdicts.of_function(said, function) for function in touched]
+    return next((each for each in found if each.kind != "open"), found[0])
+
+
+class Tried:
+    def __init__(self):
+        self.lines, self.right, self.runs = [], 0, 0
+
+    def tell(self, edit, verdict, seconds=None):
+        word = {"refused": "refused", "broken": "BROKEN", "open": "NOT REFUSED"}[verdict.kind]
+        took = "" if seconds is None else f" ({seconds:.0f} s)"
+        self.lines.append(f"edit {edit.label}: {word}{took}: {verdict.why}")
+        self.right += verdict.kind == "refused"
 
 
 def tried(copies, crate):
-    """The lines and the number of refusals of a crate's edits."""
-    copy, lines, refused = copies.get(), [], 0
-    status, said = dev(copy, crate)
-    if status != 0:
-        raise SystemExit(f"{crate} is not proved without an edit:\n{said[-2000:]}")
-    folder = os.path.join(HERE, crate)
-    for name in sorted(os.listdir(folder)):
-        files = edited(copy, crate, os.path.join(folder, name))
-        put(files, 1)
-        status, said = dev(copy, crate)
-        put(files, 0)
-        # refused by the prover: an edit that the front end rejects has no such line and shows nothing
-        right = status == 1 and "logic=not-proved" in said
-        first = re.search(r"proofs/\S+:\d+:\d+: error: [^\n]{0,100}|fn \S+: no(?:t| proof)[^\n]{0,200}", said)
-        lines.append(f"{crate}/{name}: {'refused' if right else 'NOT REFUSED'}: {first.group(0) if first else said[-200:]}")
-        refused += right
+    """A crate's edits: together where that tells, the rest alone."""
+    every, copy, done = functions(ROOT, crate), copies.get(), Tried()
+    groups, alone = grouped(of_crate(crate)[1], every)
+    began = time.time()
+    for group in groups:
+        start, said = time.time(), check(copy, crate, group)
+        for edit in group.edits:
+            verdict = judged(said, edit, every)
+            if verdict.kind == "refused":
+                done.tell(edit, verdict, (time.time() - start) / len(group.edits))
+            else:
+                alone.append(Group(edit))
+    for group in alone:
+        start, said = time.time(), check(copy, crate, group)
+        done.tell(group.edits[0], judged(said, group.edits[0], every), time.time() - start)
+    done.runs = len(groups) + len(alone)
+    done.lines.append(f"edits of {crate}: {done.runs} runs ({time.time() - began:.0f} s)")
     copies.put(copy)
-    return lines, refused
+    return done
+
+
+def size(crate):
+    """Bytes of a crate's proofs, by which its checks take long."""
+    proofs = os.path.join(ROOT, "crates", crate, "proofs")
+    return sum(os.path.getsize(os.path.join(folder, name)) for folder, _, files in os.walk(proofs) for name in files)
+
+
+def logged(crate):
+    """The edits that `rt ci` tried, by the logs it left."""
+    every, done = functions(ROOT, crate), Tried()
+    for edit in of_crate(crate)[0]:
+        log = os.path.join(ROOT, "target", "must-fail", *edit.label.split("/"), ".log")
+        said = open(log, encoding="utf-8").read() if os.path.exists(log) else "no log of rt ci"
+        done.tell(edit, judged("\n" + said, edit, every))
+    return done
 
 
 def main():
-    crates = sys.argv[1:] or sorted(name for name in os.listdir(HERE) if os.path.isdir(os.path.join(HERE, name)))
+    words = [word for word in sys.argv[1:] if word != "--logs"]
+    crates = words or libraries()
+    right = wanted = runs = 0
+    for crate in crates:
+        for path, count in uncovered(crate):
+            print(f"edits: {path} has {count} of its own, not two")
+            wanted += 1
+    if "--logs" in sys.argv:
+        for crate in crates:
+            done = logged(crate)
+            print("\n".join(line for line in done.lines), flush=True)
+            right, wanted = right + done.right, wanted + len(of_crate(crate)[0])
     # the dearest first
-    crates.sort(key=lambda crate: -len(os.listdir(os.path.join(HERE, crate))) - 20 * (crate in ("emit", "parts", "roots", "jsx")))
-    edits = sum(len(os.listdir(os.path.join(HERE, crate))) for crate in crates)
-    refused, copies = 0, queue.Queue()
-    subprocess.run(["rt", "check", *crates], cwd=ROOT, check=True, stdout=subprocess.DEVNULL)
+    trying = sorted((crate for crate in crates if of_crate(crate)[1]), key=size, reverse=True)
+    subprocess.run(["rt", "check", *trying], cwd=ROOT, check=True, stdout=subprocess.DEVNULL)
+    copies = queue.Queue()
     with tempfile.TemporaryDirectory() as place, concurrent.futures.ThreadPoolExecutor(SIDES) as pool:
         for side in range(SIDES):
-            copy = os.path.join(place, str(side))
-            shutil.copytree(ROOT, copy, ignore=shutil.ignore_patterns(".git", "dev", "gen*", "inc", "must-fail"))
-            copies.put(copy)
-        for lines, right in pool.map(lambda crate: tried(copies, crate), crates):
-            print("\n".join(lines), flush=True)
-            refused += right
-    print(f"edits: {refused} of {edits} refused")
-    sys.exit(refused != edits)
+            copies.put(copied(os.path.join(place, str(side))))
+        for crate, done in zip(trying, pool.map(lambda crate: tried(copies, crate), trying)):
+            print("\n".join(done.lines), flush=True)
+            right, wanted, runs = right + done.right, wanted + len(of_crate(crate)[1]), runs + done.runs
+    print(f"edits: {right} of {wanted} refused, in {runs} runs")
+    sys.exit(right != wanted)
 
 
 if __name__ == "__main__":

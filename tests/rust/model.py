@@ -1,8 +1,9 @@
 #!/usr/bin/env python3
 """A second reading of the specification, in the small: python3 model.py CASES [--notices ROOM]
 
-Written from the specification's text alone, as a check on the bridge and the generator. It claims nothing about the proved
-program. Prints what oracle prints, and each refusal with its number and figure. ROOM is that of the target for notices (65,536 bytes).
+Written from the specification's text, by someone who had read the Rust, as a check on the bridge and the generator: no wholly independent
+reading. It claims nothing about the proved program. Prints what oracle prints, and each refusal with its number and figure. ROOM is that of the
+target for notices (65,536 bytes).
 """
 
 import argparse
@@ -110,7 +111,7 @@ def open_job(job, text):
             options[code] = span
             allowed = allowed[allowed.index(code) + 1:]
     s = Settings()
-    s.plugin, s.self, s.source, s.classic, s.dev, s.throw, pure, s.module = [flags >> bit & 1 for bit in range(8)]
+    s.plugin, s.self, s.source, s.classic, s.dev, s.throw, s.pure_option, s.module = [flags >> bit & 1 for bit in range(8)]
     s.pragma, s.frag, s.importing = options.get(0x62), options.get(0x63), options.get(0x64)
     s.ts = s.tsfrag = None
     if s.dev:  # conform
@@ -130,7 +131,7 @@ def open_job(job, text):
                 s.importing = value
             elif said in (b"classic", b"automatic"):
                 s.classic = int(said == b"classic")
-    s.pure = int(bool(pure) or s.importing is None and s.pragma is None)
+    s.pure = int(bool(s.pure_option) or s.importing is None and s.pragma is None)
     if s.classic:
         for span in (s.pragma, s.frag):
             for place in range(span[0], span[0] + span[1]) if span else ():

@@ -1,9 +1,40 @@
 // What the crate `tape` says of an operation's bytes: numbers and targets, the readers of commands, refusals.
-ghost use Prim.Native.Nat.{_<_};
+ghost use Prim.Native.Nat.{_<_, _≤_};
+ghost use lib.ListN.{length};
+use crate::making::ABSENT;
+use crate::making::BAD;
+use crate::making::COMMENT;
+use crate::making::CUT;
+use crate::making::ELEMENT;
+use crate::making::EMPTY;
+use crate::making::END;
+use crate::making::EXPRESSION;
+use crate::making::FLAGS;
+use crate::making::FRAGMENT;
+use crate::making::HERITAGE;
+use crate::making::IDENTIFIER;
+use crate::making::IMPORT_SOURCE;
+use crate::making::LITERAL;
+use crate::making::MEMBER;
+use crate::making::NAMED;
+use crate::making::NAMESPACED;
+use crate::making::OTHER;
+use crate::making::PLAIN;
+use crate::making::PRAGMA;
+use crate::making::PRAGMA_FRAG;
+use crate::making::PROPERTY;
+use crate::making::SCOPE;
+use crate::making::SHORT;
+use crate::making::SPREAD;
+use crate::making::TEXT;
+use crate::making::THIS;
+use crate::making::UNKNOWN;
+use crate::making::WRONG;
 use crate::making::and_span;
 use crate::making::with_number;
 use crate::making::with_place;
 use crate::making::with_span;
+use crate::making::word;
 use commands::opening::FlagsCommand;
 use commands::opening::OptionCommand;
 use commands::opening::flags_command_at;
@@ -58,6 +89,11 @@ pub fn answer(operation: &[u8], bytes: &[u8]) -> Answer {
     if same(operation, b"far") {
         return far(bytes);
     }
+    opening(operation, bytes)
+}
+
+// The operations stand in short chains: the proof of a chain grows by the square of its length.
+fn opening(operation: &[u8], bytes: &[u8]) -> Answer {
     if same(operation, b"flags") {
         return flags(bytes);
     }
@@ -70,6 +106,10 @@ pub fn answer(operation: &[u8], bytes: &[u8]) -> Answer {
     if same(operation, b"scope") {
         return scope(bytes);
     }
+    element(operation, bytes)
+}
+
+fn element(operation: &[u8], bytes: &[u8]) -> Answer {
     if same(operation, b"name") {
         return name(bytes);
     }
@@ -79,6 +119,10 @@ pub fn answer(operation: &[u8], bytes: &[u8]) -> Answer {
     if same(operation, b"attribute") {
         return attribute(bytes);
     }
+    content(operation, bytes)
+}
+
+fn content(operation: &[u8], bytes: &[u8]) -> Answer {
     if same(operation, b"property") {
         return property(bytes);
     }
@@ -95,7 +139,7 @@ pub fn answer(operation: &[u8], bytes: &[u8]) -> Answer {
 
 fn short_number(s: &[u8]) -> Answer {
     if s.len() < 2 {
-        return named(b"short");
+        return word(SHORT);
     }
     let n = read_u16(s, 0);
     let mut target = [0xeeu8; 2];
@@ -105,7 +149,7 @@ fn short_number(s: &[u8]) -> Answer {
 
 fn long_number(s: &[u8]) -> Answer {
     if s.len() < 4 {
-        return named(b"short");
+        return word(SHORT);
     }
     let n = read_u32(s, 0);
     let mut target = [0xeeu8; 4];
@@ -115,7 +159,7 @@ fn long_number(s: &[u8]) -> Answer {
 
 fn span(s: &[u8]) -> Answer {
     if s.len() < 4 {
-        return named(b"short");
+        return word(SHORT);
     }
     let part = read_span(s, 0);
     let mut target = [0xeeu8; 4];
@@ -134,7 +178,7 @@ fn wide(b: u8) -> usize
 // The target's length (at most 10), the place, then what is put there.
 fn in_target(operation: &[u8], s: &[u8]) -> Answer {
     if s.len() < 2 {
-        return named(b"unknown");
+        return word(UNKNOWN);
     }
     let length = wide(s[0]);
     let at = wide(s[1]);
@@ -150,29 +194,44 @@ fn put_into(operation: &[u8], target: &mut [u8], at: usize, s: &[u8]) -> Answer 
         let next = put_each(target, at, s);
         return with_bytes(with_value(no_values(), next as u64), target);
     }
-    if s.len() < 2 {
-        return named(b"unknown");
+    if s.len() < 4 {
+        return put_short(operation, target, at, s);
     }
+    let next = put_four_bytes(operation, target, at, s);
+    with_bytes(with_value(no_values(), next as u64), target)
+}
+
+fn put_short(operation: &[u8], target: &mut [u8], at: usize, s: &[u8]) -> Answer {
+    if s.len() < 2 {
+        return word(UNKNOWN);
+    }
+    let next = put_two_bytes(operation, target, at, s);
+    with_bytes(with_value(no_values(), next as u64), target)
+}
+
+// The place stays for an operation that is not known.
+fn put_two_bytes(operation: &[u8], target: &mut [u8], at: usize, s: &[u8]) -> usize
+    requires { ⌜ 2 ≤ length (now s) ⌝ }
+{
     if same(operation, b"put_two") {
-        let next = put_two(target, at, s[0], s[1]);
-        return with_bytes(with_value(no_values(), next as u64), target);
+        return put_two(target, at, s[0], s[1]);
     }
     if same(operation, b"put_u16") {
-        let next = put_u16(target, at, read_u16(s, 0));
-        return with_bytes(with_value(no_values(), next as u64), target);
+        return put_u16(target, at, read_u16(s, 0));
     }
-    if s.len() < 4 {
-        return named(b"unknown");
-    }
+    at
+}
+
+fn put_four_bytes(operation: &[u8], target: &mut [u8], at: usize, s: &[u8]) -> usize
+    requires { ⌜ 4 ≤ length (now s) ⌝ }
+{
     if same(operation, b"put_u32") {
-        let next = put_u32(target, at, read_u32(s, 0));
-        return with_bytes(with_value(no_values(), next as u64), target);
+        return put_u32(target, at, read_u32(s, 0));
     }
     if same(operation, b"put_span") {
-        let next = put_span(target, at, read_span(s, 0));
-        return with_bytes(with_value(no_values(), next as u64), target);
+        return put_span(target, at, read_span(s, 0));
     }
-    named(b"unknown")
+    at
 }
 
 fn put_each(target: &mut [u8], at: usize, s: &[u8]) -> usize {
@@ -188,7 +247,7 @@ fn put_each(target: &mut [u8], at: usize, s: &[u8]) -> usize {
 // Counting stops at 2 ^ 63: the first byte says how far before that the other bytes are put, the answer how far the place after them is.
 fn far(s: &[u8]) -> Answer {
     if s.len() < 1 {
-        return named(b"short");
+        return word(SHORT);
     }
     let end: usize = 0x8000_0000_0000_0000;
     let mut target = [0xeeu8; 4];
@@ -204,27 +263,27 @@ fn far(s: &[u8]) -> Answer {
 fn flags(s: &[u8]) -> Answer {
     let command = flags_command_at(s);
     match command {
-        FlagsCommand::Flags(n) => with_number(b"flags", n as u64),
-        FlagsCommand::Wrong => named(b"wrong"),
-        FlagsCommand::Cut => named(b"cut"),
-        FlagsCommand::Bad => named(b"bad"),
+        FlagsCommand::Flags(n) => with_number(FLAGS, n as u64),
+        FlagsCommand::Wrong => word(WRONG),
+        FlagsCommand::Cut => word(CUT),
+        FlagsCommand::Bad => word(BAD),
     }
 }
 
 // The first byte is the last of 61 to 64 that has come.
 fn option(s: &[u8]) -> Answer {
     if s.len() < 1 {
-        return named(b"short");
+        return word(SHORT);
     }
     let command = option_command_at(s[0], &s[1..]);
     match command {
-        OptionCommand::Pragma(p) => with_span(b"pragma", p),
-        OptionCommand::PragmaFrag(p) => with_span(b"pragmafrag", p),
-        OptionCommand::ImportSource(p) => with_span(b"importsource", p),
-        OptionCommand::Comment(p) => with_span(b"comment", p),
-        OptionCommand::End => named(b"end"),
-        OptionCommand::Wrong => named(b"wrong"),
-        OptionCommand::Cut => named(b"cut"),
+        OptionCommand::Pragma(p) => with_span(PRAGMA, p),
+        OptionCommand::PragmaFrag(p) => with_span(PRAGMA_FRAG, p),
+        OptionCommand::ImportSource(p) => with_span(IMPORT_SOURCE, p),
+        OptionCommand::Comment(p) => with_span(COMMENT, p),
+        OptionCommand::End => word(END),
+        OptionCommand::Wrong => word(WRONG),
+        OptionCommand::Cut => word(CUT),
     }
 }
 
@@ -233,100 +292,100 @@ fn option(s: &[u8]) -> Answer {
 fn heritage(s: &[u8]) -> Answer {
     let command = heritage_command_at(s);
     match command {
-        HeritageCommand::Heritage(kind) => with_number(b"heritage", kind as u64),
-        HeritageCommand::Wrong => named(b"wrong"),
-        HeritageCommand::Cut => named(b"cut"),
-        HeritageCommand::Bad => named(b"bad"),
+        HeritageCommand::Heritage(kind) => with_number(HERITAGE, kind as u64),
+        HeritageCommand::Wrong => word(WRONG),
+        HeritageCommand::Cut => word(CUT),
+        HeritageCommand::Bad => word(BAD),
     }
 }
 
 // The first byte says whether a scope of kind 2 or 3 has come.
 fn scope(s: &[u8]) -> Answer {
     if s.len() < 1 {
-        return named(b"short");
+        return word(SHORT);
     }
     let command = scope_command_at(s[0] == 1, &s[1..]);
     match command {
-        ScopeCommand::Scope(kind) => with_number(b"scope", kind as u64),
-        ScopeCommand::Element(p) => with_place(b"element", p),
-        ScopeCommand::Fragment(p) => with_place(b"fragment", p),
-        ScopeCommand::Wrong => named(b"wrong"),
-        ScopeCommand::Cut => named(b"cut"),
-        ScopeCommand::Bad => named(b"bad"),
+        ScopeCommand::Scope(kind) => with_number(SCOPE, kind as u64),
+        ScopeCommand::Element(p) => with_place(ELEMENT, p),
+        ScopeCommand::Fragment(p) => with_place(FRAGMENT, p),
+        ScopeCommand::Wrong => word(WRONG),
+        ScopeCommand::Cut => word(CUT),
+        ScopeCommand::Bad => word(BAD),
     }
 }
 
 fn name(s: &[u8]) -> Answer {
     let command = name_command_at(s);
     match command {
-        NameCommand::Plain(p) => with_span(b"plain", p),
-        NameCommand::Identifier(p) => with_span(b"identifier", p),
-        NameCommand::This => named(b"this"),
-        NameCommand::Namespaced(p, q) => and_span(with_span(b"namespaced", p), q),
-        NameCommand::Wrong => named(b"wrong"),
-        NameCommand::Cut => named(b"cut"),
+        NameCommand::Plain(p) => with_span(PLAIN, p),
+        NameCommand::Identifier(p) => with_span(IDENTIFIER, p),
+        NameCommand::This => word(THIS),
+        NameCommand::Namespaced(p, q) => and_span(with_span(NAMESPACED, p), q),
+        NameCommand::Wrong => word(WRONG),
+        NameCommand::Cut => word(CUT),
     }
 }
 
 fn member(s: &[u8]) -> Answer {
     let command = member_command_at(s);
     match command {
-        MemberCommand::Member(p) => with_span(b"member", p),
-        MemberCommand::Other => named(b"other"),
-        MemberCommand::Cut => named(b"cut"),
+        MemberCommand::Member(p) => with_span(MEMBER, p),
+        MemberCommand::Other => word(OTHER),
+        MemberCommand::Cut => word(CUT),
     }
 }
 
 fn attribute(s: &[u8]) -> Answer {
     let command = attribute_command_at(s);
     match command {
-        AttributeCommand::Plain(p) => with_span(b"plain", p),
-        AttributeCommand::Namespaced(p, q) => and_span(with_span(b"namespaced", p), q),
-        AttributeCommand::Spread(e) => with_number(b"spread", e as u64),
-        AttributeCommand::Literal(e) => with_number(b"literal", e as u64),
-        AttributeCommand::End => named(b"end"),
-        AttributeCommand::Wrong => named(b"wrong"),
-        AttributeCommand::Cut => named(b"cut"),
+        AttributeCommand::Plain(p) => with_span(PLAIN, p),
+        AttributeCommand::Namespaced(p, q) => and_span(with_span(NAMESPACED, p), q),
+        AttributeCommand::Spread(e) => with_number(SPREAD, e as u64),
+        AttributeCommand::Literal(e) => with_number(LITERAL, e as u64),
+        AttributeCommand::End => word(END),
+        AttributeCommand::Wrong => word(WRONG),
+        AttributeCommand::Cut => word(CUT),
     }
 }
 
 fn property(s: &[u8]) -> Answer {
     let command = property_command_at(s);
     match command {
-        PropertyCommand::Property(e) => with_number(b"property", e as u64),
-        PropertyCommand::Named(e, p) => and_span(with_number(b"named", e as u64), p),
-        PropertyCommand::End => named(b"end"),
-        PropertyCommand::Wrong => named(b"wrong"),
-        PropertyCommand::Cut => named(b"cut"),
+        PropertyCommand::Property(e) => with_number(PROPERTY, e as u64),
+        PropertyCommand::Named(e, p) => and_span(with_number(NAMED, e as u64), p),
+        PropertyCommand::End => word(END),
+        PropertyCommand::Wrong => word(WRONG),
+        PropertyCommand::Cut => word(CUT),
     }
 }
 
 fn value(s: &[u8]) -> Answer {
     let command = value_command_at(s);
     match command {
-        ValueCommand::Absent => named(b"absent"),
-        ValueCommand::Text(p) => with_span(b"text", p),
-        ValueCommand::Expression(e) => with_number(b"expression", e as u64),
-        ValueCommand::Empty => named(b"empty"),
-        ValueCommand::Element(p) => with_place(b"element", p),
-        ValueCommand::Fragment(p) => with_place(b"fragment", p),
-        ValueCommand::Wrong => named(b"wrong"),
-        ValueCommand::Cut => named(b"cut"),
+        ValueCommand::Absent => word(ABSENT),
+        ValueCommand::Text(p) => with_span(TEXT, p),
+        ValueCommand::Expression(e) => with_number(EXPRESSION, e as u64),
+        ValueCommand::Empty => word(EMPTY),
+        ValueCommand::Element(p) => with_place(ELEMENT, p),
+        ValueCommand::Fragment(p) => with_place(FRAGMENT, p),
+        ValueCommand::Wrong => word(WRONG),
+        ValueCommand::Cut => word(CUT),
     }
 }
 
 fn child(s: &[u8]) -> Answer {
     let command = child_command_at(s);
     match command {
-        ChildCommand::Text(p) => with_span(b"text", p),
-        ChildCommand::Expression(e) => with_number(b"expression", e as u64),
-        ChildCommand::Empty => named(b"empty"),
-        ChildCommand::Spread(e) => with_number(b"spread", e as u64),
-        ChildCommand::Element(p) => with_place(b"element", p),
-        ChildCommand::Fragment(p) => with_place(b"fragment", p),
-        ChildCommand::End => named(b"end"),
-        ChildCommand::Wrong => named(b"wrong"),
-        ChildCommand::Cut => named(b"cut"),
+        ChildCommand::Text(p) => with_span(TEXT, p),
+        ChildCommand::Expression(e) => with_number(EXPRESSION, e as u64),
+        ChildCommand::Empty => word(EMPTY),
+        ChildCommand::Spread(e) => with_number(SPREAD, e as u64),
+        ChildCommand::Element(p) => with_place(ELEMENT, p),
+        ChildCommand::Fragment(p) => with_place(FRAGMENT, p),
+        ChildCommand::End => word(END),
+        ChildCommand::Wrong => word(WRONG),
+        ChildCommand::Cut => word(CUT),
     }
 }
 
@@ -381,7 +440,7 @@ fn fault(name: u64, at: usize) -> Answer {
     if name == value_of(b"position") {
         return told(Refusal::Tape(Fault::Position, at));
     }
-    named(b"unknown")
+    word(UNKNOWN)
 }
 
 // Number and figure.

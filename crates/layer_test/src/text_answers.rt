@@ -1,9 +1,9 @@
 // What the crate `text` says of an operation's bytes.
 use crate::making::place_found;
+use crate::making::word_in;
 use tape::numbers::read_span;
 use text::bytes::find_byte;
 use text::bytes::find_over_ascii;
-use text::bytes::same;
 use text::chars::first_char;
 use text::chars::is_line_terminator;
 use text::chars::is_white_space;
@@ -70,37 +70,11 @@ pub fn over_ascii(s: &[u8]) -> Answer {
     place_found(find_over_ascii(s))
 }
 
-// Which of the words that the project compares with s is.
+// The words that the project compares with.
+const WORDS: [u8; 74] =
+    *b"key __proto__ this import meta classic automatic Frag Runtime ImportSource";
+
+// Which of them s is.
 pub fn fixed_word(s: &[u8]) -> Answer {
-    if same(s, b"key") {
-        return named(b"key");
-    }
-    if same(s, b"__proto__") {
-        return named(b"proto");
-    }
-    if same(s, b"this") {
-        return named(b"this");
-    }
-    if same(s, b"import") {
-        return named(b"import");
-    }
-    if same(s, b"meta") {
-        return named(b"meta");
-    }
-    if same(s, b"classic") {
-        return named(b"classic");
-    }
-    if same(s, b"automatic") {
-        return named(b"automatic");
-    }
-    if same(s, b"Frag") {
-        return named(b"frag");
-    }
-    if same(s, b"Runtime") {
-        return named(b"runtime");
-    }
-    if same(s, b"ImportSource") {
-        return named(b"importsource");
-    }
-    named(b"none")
+    word_in(s, &WORDS)
 }

@@ -1,9 +1,12 @@
 // The vectors of standard input.
 ghost use Prim.Native.Nat.{_≤_};
+ghost use lib.ListN.{length};
 use crate::show::say;
 use crate::show::show_answer;
+use crate::show::show_kept;
 use crate::show::show_records;
 use crate::show::show_targets;
+use crate::states::replaced;
 use definitions::state::Answer;
 use definitions::state::State;
 use libc::STDIN_FILENO;
@@ -14,6 +17,23 @@ use vectors::lines::before;
 use vectors::lines::line_end;
 use vectors::values::hex_bytes;
 use vectors::values::value_of;
+
+// The bytes that a field spells: in hexadecimal, or a star and how many zero bytes. What `out` holds at first is zero.
+fn bytes_of(field: &[u8], out: &mut [u8]) -> usize
+    ensures { λ r. ⌜ r ≤ length (now (out .exit)) ⌝ }
+{
+    if field.len() == 0 {
+        return 0;
+    }
+    if field[0] != b'*' {
+        return hex_bytes(field, out);
+    }
+    let n = value_of(&field[1..]) as usize;
+    if n < out.len() {
+        return n;
+    }
+    out.len()
+}
 
 // A target's size, up to that of the buffers.
 fn room_of(field: &[u8]) -> usize
@@ -37,12 +57,13 @@ fn run_root(
     if field.len() == 0 {
         return state;
     }
-    let mut root = io::buffer();
-    let n = hex_bytes(field, &mut root);
+    let mut root = io::large_buffer();
+    let n = bytes_of(field, &mut root);
     let stepped = lower_root(text, state, &root[0..n], calls, notices);
     let answer = stepped.answer;
     let next = stepped.state;
     show_answer(answer);
+    show_kept(state, next);
     next
 }
 
@@ -57,29 +78,54 @@ fn run_roots(text: &[u8], state: State, rooms: &[u8], calls: &mut [u8], notices:
     show_records(text, two, &mut records[0..room]);
 }
 
-// Opens the job and lends the targets. What `sizes` begins with are their fields.
-fn run_job(job: &[u8], text: &[u8], sizes: &[u8]) {
-    let opened = open_job(text, job);
-    let answer = opened.answer;
-    let state = opened.state;
+// Lends the targets. What `sizes` begins with are their fields.
+fn run_state(text: &[u8], state: State, sizes: &[u8]) {
     let mut calls = [0xee; 4096];
     let mut notices = [0xee; 4096];
     let call_room = room_of(before(sizes, b'|'));
     let rest = after(sizes, b'|');
     let notice_room = room_of(before(rest, b'|'));
+    run_roots(
+        text,
+        state,
+        after(rest, b'|'),
+        &mut calls[0..call_room],
+        &mut notices[0..notice_room],
+    );
+}
+
+// The roots over the state of an opening, some of whose bytes may be replaced, and over the text that a field spells.
+fn run_opened(field: &[u8], state: State, rest: &[u8]) {
+    let mut text = io::large_buffer();
+    let n = bytes_of(field, &mut text);
+    run_state(
+        &text[0..n],
+        replaced(state, before(rest, b'|')),
+        after(rest, b'|'),
+    );
+}
+
+// Opens the job over the text of a field. The roots are given the same, or the one behind `>`.
+fn run_job(job: &[u8], field: &[u8], rest: &[u8]) {
+    let first = before(field, b'>');
+    let mut text = io::large_buffer();
+    let n = bytes_of(first, &mut text);
+    let opened = open_job(&text[0..n], job);
+    let answer = opened.answer;
+    let state = opened.state;
     match answer {
         Answer::Refused(_) => {
             say(b" opening");
             show_answer(answer);
             say(b"\n");
         }
-        Answer::Accepted => run_roots(
-            text,
-            state,
-            after(rest, b'|'),
-            &mut calls[0..call_room],
-            &mut notices[0..notice_room],
-        ),
+        Answer::Accepted => {
+            if first.len() == field.len() {
+                run_opened(field, state, rest);
+            } else {
+                run_opened(after(field, b'>'), state, rest);
+            }
+        }
     }
 }
 
@@ -87,12 +133,10 @@ fn run_line(line: &[u8]) {
     say(before(line, b'|'));
     say(b":");
     let mut job = [0u8; 256];
-    let mut text = [0u8; 256];
     let tapes = after(line, b'|');
-    let j = hex_bytes(before(tapes, b'|'), &mut job);
+    let n = hex_bytes(before(tapes, b'|'), &mut job);
     let rest = after(tapes, b'|');
-    let t = hex_bytes(before(rest, b'|'), &mut text);
-    run_job(&job[0..j], &text[0..t], after(rest, b'|'));
+    run_job(&job[0..n], before(rest, b'|'), after(rest, b'|'));
 }
 
 pub fn run() {

@@ -1,12 +1,11 @@
-// Runs whole roots. First the vectors of standard input, one to a line: NAME|JOB|TEXT|CALLS|NOTICES|RECORDS|ROOT|ROOT, where job, text and roots
-// are in hexadecimal (a root may be missing) and the others are the sizes of the three targets. Then tapes and texts at their limit, and
-// forged states. Each line says what each root was answered, how far each target is filled, and what all of it holds: each byte was EE.
+// Runs whole roots. Each line of standard input is NAME|JOB|TEXT|STATE|CALLS|NOTICES|RECORDS|ROOT|ROOT. Job, text and roots are in hexadecimal, or a star and
+// how many zero bytes (a root may be missing); a text behind `>` is the one that the roots are given. STATE names bytes of the packed
+// state that are replaced after opening. The others are the sizes of the three targets. A line is written for each: what each root was answered and
+// whether it moved the state, how far each target is filled, and what all of it holds: each byte was EE.
 mod cases;
-mod forged;
-mod same;
 mod show;
+mod states;
 
 fn main() {
     cases::run();
-    forged::run();
 }

@@ -1,4 +1,5 @@
 // Lines of what is answered.
+use crate::states::is_same;
 use definitions::state::Answer;
 use definitions::state::State;
 use definitions::state::Written;
@@ -36,6 +37,15 @@ pub fn show_answer(answer: Answer) {
     match answer {
         Answer::Accepted => say(b" accepted"),
         Answer::Refused(refusal) => show_refusal(refusal),
+    }
+}
+
+// Whether a root moved the state.
+pub fn show_kept(before: State, after: State) {
+    if is_same(before, after) {
+        say(b", state kept");
+    } else {
+        say(b", state moved");
     }
 }
 
