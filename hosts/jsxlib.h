@@ -13,10 +13,18 @@
  *      9  more than 8 bindings                                        8
  *     10  target (or state) has no room                               bytes that this entry would write
  *     11  notice target has no room                                   the same, of notices
- *     12  the state is not one that these entries made                0
+ *     12  forged: no state's bytes, or a state that neither this    0
+ *         text nor any series of roots bears out
  *
- * A refusal leaves the state and every target as they were (behind roots of a list that were lowered, as these left them), so an entry that wants room can be
- * called again with more.
+ * What a refusal leaves: the state's bytes and every target as they were, in jsx_open, jsx_root and jsx_records. jsx_roots and jsx_job lower the roots before the
+ * one that is refused, and leave these: `taken` says how many. So after 10 or 11 from jsx_roots call it again with more room and with the list cut behind its first
+ * `taken` roots; called with the whole list it would lower those a second time. jsx_job keeps no state and is called again as it was.
+ *
+ * What 12 says, and what it doesn't: bytes that packing never makes, fills beyond the targets, spans and pragma forms that the text does not bear out, records
+ * numbered with a gap, twice, or of things that the settings can't bind are refused. A state that says something else in order is taken at its word: another flag, a
+ * smaller fill, records of other roots. Keep states where only your own program writes.
+ *
+ * Stack: a call takes at most 210,000 bytes of it, for a root nested as deep as allowed (64 levels). Give a thread that calls these entries 256 KiB at the least.
  *
  * What a caller owes: each pointer points to as many bytes as the length behind it says and is not null, also where that is 0;
  * what an entry writes (no `const`) overlaps nothing else that it is given. The entries keep nothing between calls and no pointer.
@@ -31,7 +39,7 @@
 extern "C" {
 #endif
 
-/* A job's state: exactly this many bytes, to be kept and copied as one likes. Bytes that are no state's are refused by 12. */
+/* A job's state: exactly this many bytes, to be kept and copied as one likes. */
 #define JSX_STATE_SIZE 102
 
 /* Opens a job: reads the opening tape over the text and writes the state to the front of `state`. On 0 the figure is JSX_STATE_SIZE. */

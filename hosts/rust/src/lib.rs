@@ -20,15 +20,21 @@ mod lists;
 mod raw;
 mod refusal;
 mod settings;
+mod target;
 mod workspace;
 
-use lists::{behind, put_list, too_long, LONGEST};
+use lists::{behind, put_list, roots_in, too_long};
 pub use refusal::{JobRefusal, Refusal, RootRefusal};
 pub use settings::{Settings, Span};
+use target::Target;
 pub use workspace::{Output, Workspace};
 
 /// How many bytes a job's state has.
 pub const STATE_SIZE: usize = 102;
+
+/// How many bytes the calls of a job may take, and as many its notices, unless another limit is set: 64 MiB. A root whose texts overlap can ask for
+/// thousands of times its own size; without overlaps it takes at most four bytes for each of its tape and six for each of the text.
+pub const DEFAULT_LIMIT: usize = 64 << 20;
 
 /// A job over a text: its state, and what its roots gave so far.
 #[derive(Clone, Debug)]
@@ -37,31 +43,7 @@ pub struct Job<'t> {
     state: [u8; STATE_SIZE],
     calls: Target,
     notices: Target,
-}
-
-/// What was written so far, and room behind it that is kept from root to root.
-#[derive(Clone, Debug, Default)]
-struct Target {
-    bytes: Vec<u8>,
-    filled: usize,
-}
-
-impl Target {
-    fn written(&self) -> &[u8] {
-        &self.bytes[..self.filled]
-    }
-
-    fn make_room(&mut self, room: usize) {
-        let wanted = self.filled + room;
-        if self.bytes.len() < wanted {
-            self.bytes.resize(wanted.max(2 * self.bytes.len()), 0);
-        }
-    }
-
-    fn into_written(mut self) -> Vec<u8> {
-        self.bytes.truncate(self.filled);
-        self.bytes
-    }
+    limit: usize,
 }
 
 /// What a root, or several in turn, added.
@@ -76,7 +58,16 @@ impl<'t> Job<'t> {
     pub fn open(text: &'t [u8], tape: &[u8]) -> Result<Job<'t>, Refusal> {
         let mut state = [0; STATE_SIZE];
         raw::open(text, tape, &mut state)?;
-        Ok(Job { text, state, calls: Target::default(), notices: Target::default() })
+        Ok(Job::over(text, state, Target::default(), Target::default()))
+    }
+
+    fn over(text: &'t [u8], state: [u8; STATE_SIZE], calls: Target, notices: Target) -> Job<'t> {
+        Job { text, state, calls, notices, limit: DEFAULT_LIMIT }
+    }
+
+    /// Sets how many bytes the calls of all roots may take, and as many their notices. A root that would go beyond it is refused by `Refusal::Limit`.
+    pub fn set_limit(&mut self, bytes: usize) {
+        self.limit = bytes;
     }
 
     /// The same with memory that another job gave back (`into_buffers`), which is neither cleared nor shown.
@@ -86,12 +77,12 @@ impl<'t> Job<'t> {
         (calls, notices): (Vec<u8>, Vec<u8>),
     ) -> Result<Job<'t>, Refusal> {
         let job = Job::open(text, tape)?;
-        let target = |bytes: Vec<u8>| Target { bytes, filled: 0 };
-        Ok(Job { calls: target(calls), notices: target(notices), ..job })
+        Ok(Job { calls: Target::over(calls), notices: Target::over(notices), ..job })
     }
 
-    /// A job taken up again, from the bytes of its state and from its calls and notices so far. A state that does not fit them is refused
-    /// here, and one that does not fit the text by the next entry.
+    /// A job taken up again, from the bytes of its state and from its calls and notices so far. Refused as forged are, here, bytes that are no state's and
+    /// fills that are not the lengths of these tapes, and by the next entry a state that the text does not bear out. That is no proof that the state is
+    /// this job's: one with another flag, or with the records of other roots, is taken for what it says. Keep states where only this program writes.
     pub fn resume(
         text: &'t [u8],
         state: &[u8],
@@ -103,14 +94,16 @@ impl<'t> Job<'t> {
         if fills != (calls.len(), notices.len()) {
             return Err(Refusal::Forged);
         }
-        let target = |bytes: Vec<u8>| Target { filled: bytes.len(), bytes };
-        Ok(Job { text, state, calls: target(calls), notices: target(notices) })
+        Ok(Job::over(text, state, Target::filled(calls), Target::filled(notices)))
     }
 
     /// Lowers a root. A refusal leaves the job as it was.
     pub fn lower_root(&mut self, root: &[u8]) -> Result<Lowered<'_>, Refusal> {
         let (calls, notices) = (self.calls.filled, self.notices.filled);
-        self.lower_with_room(root)?;
+        self.make_room(root.len(), || raw::call_room(root));
+        while let Err(refusal) = self.lower_into_targets(root) {
+            self.grow(refusal)?;
+        }
         (self.calls.filled, self.notices.filled) = raw::fills(&self.state)?;
         Ok(Lowered {
             calls: &self.calls.written()[calls..],
@@ -118,21 +111,27 @@ impl<'t> Job<'t> {
         })
     }
 
-    // Where no two texts of the root overlap, there is room for all that it can give, and it is lowered in one pass; else it may be refused for want of
-    // room, which names what is wanted.
-    fn lower_with_room(&mut self, root: &[u8]) -> Result<(), Refusal> {
-        let size = root.len().min(LONGEST);
-        self.calls.make_room(4 * size + 6 * self.text.len());
-        self.notices.make_room(size);
-        match self.lower_into_targets(root) {
-            Err(Refusal::Space { needed }) => self.calls.make_room(needed),
-            outcome => return outcome,
+    // Room for all that roots of this size can give, so that each is lowered in one pass: by the library's figure, which is asked for only where there is less
+    // than roots take whose texts don't overlap. Beyond the limit no room is made; the figure of a refusal then says what is wanted.
+    fn make_room(&mut self, size: usize, call_room: impl FnOnce() -> usize) {
+        if self.calls.free(self.limit) < 4 * size + 6 * self.text.len() {
+            let _ = self.calls.make_room(call_room(), self.limit);
         }
-        self.lower_into_targets(root)
+        let _ = self.notices.make_room(size, self.limit);
+    }
+
+    // Makes the room that a refusal asks for. Any other refusal stands.
+    fn grow(&mut self, refusal: Refusal) -> Result<(), Refusal> {
+        match refusal {
+            Refusal::Space { needed } => self.calls.make_room(needed, self.limit),
+            Refusal::NoticeSpace { needed } => self.notices.make_room(needed, self.limit),
+            refusal => Err(refusal),
+        }
     }
 
     fn lower_into_targets(&mut self, root: &[u8]) -> Result<(), Refusal> {
-        raw::root(self.text, &mut self.state, root, &mut self.calls.bytes, &mut self.notices.bytes)
+        let (calls, notices) = (self.calls.lent(self.limit), self.notices.lent(self.limit));
+        raw::root(self.text, &mut self.state, root, calls, notices)
     }
 
     /// Lowers roots in turn, up to the first that is refused, which leaves the job as those before it made it. The text is tested once for all of
@@ -152,29 +151,22 @@ impl<'t> Job<'t> {
         })
     }
 
-    // Room is made as in `lower_with_room`: where it does not do, the list goes on from the root that wants more.
+    // Where there is no room for a root, the list goes on from there with more.
     fn lower_list(&mut self, mut list: &[u8]) -> Result<(), RootRefusal> {
-        self.calls.make_room(4 * list.len() + 6 * self.text.len());
-        self.notices.make_room(list.len());
+        self.make_room(list.len(), || roots_in(list).map(raw::call_room).sum());
         let mut index = 0;
-        while !list.is_empty() {
-            let (taken, answer) = raw::roots(
-                self.text,
-                &mut self.state,
-                list,
-                &mut self.calls.bytes,
-                &mut self.notices.bytes,
-            );
+        loop {
+            let (calls, notices) = (self.calls.lent(self.limit), self.notices.lent(self.limit));
+            let (taken, answer) = raw::roots(self.text, &mut self.state, list, calls, notices);
             index += taken;
             list = behind(list, taken);
             let refused = |refusal| RootRefusal { index, refusal };
             (self.calls.filled, self.notices.filled) = raw::fills(&self.state).map_err(refused)?;
             match answer {
-                Err(Refusal::Space { needed }) => self.calls.make_room(needed),
-                answer => answer.map_err(refused)?,
+                Ok(()) => return Ok(()),
+                Err(refusal) => self.grow(refusal).map_err(refused)?,
             }
         }
-        Ok(())
     }
 
     /// The record tape: the imports, requires and file name that the calls so far mention.

@@ -67,6 +67,7 @@ extern "C" {
         figure: *mut usize,
     ) -> u8;
     fn jsx_fills(state: *const u8, state_len: usize, calls: *mut usize, notices: *mut usize) -> u8;
+    fn jsx_call_room(tape: *const u8, tape_len: usize) -> usize;
 }
 
 // In each call the lengths are those of the slices, a slice's pointer is never null, and no two borrows overlap where one is exclusive: that
@@ -164,6 +165,11 @@ pub fn fills(state: &[u8; STATE_SIZE]) -> Result<(usize, usize), Refusal> {
     let (mut calls, mut notices) = (0, 0);
     let number = unsafe { jsx_fills(state.as_ptr(), state.len(), &mut calls, &mut notices) };
     Refusal::told(number, 0).map(|()| (calls, notices))
+}
+
+// How many bytes the calls of a root can take at the most.
+pub fn call_room(tape: &[u8]) -> usize {
+    unsafe { jsx_call_room(tape.as_ptr(), tape.len()) }
 }
 
 // How far a whole job came.

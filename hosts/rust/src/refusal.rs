@@ -1,7 +1,8 @@
 use std::error::Error;
 use std::fmt;
 
-/// Why an entry turned its input away. `at` is an offset: in the text for `NotUtf8` and `PragmaByte`, on the tape for all others.
+/// Why an entry turned its input away. `at` is an offset: in the text for `NotUtf8` and `PragmaByte`, on the tape for all others. `Limit` is this crate's own:
+/// `needed` bytes more would take a job's calls or notices beyond the limit that is set for them.
 #[derive(Clone, Copy, Debug, PartialEq, Eq)]
 pub enum Refusal {
     TooLong,
@@ -16,6 +17,7 @@ pub enum Refusal {
     Space { needed: usize },
     NoticeSpace { needed: usize },
     Forged,
+    Limit { needed: usize, limit: usize },
 }
 
 impl Refusal {
@@ -38,7 +40,7 @@ impl Refusal {
         })
     }
 
-    /// The number of the specification, 1 to 12.
+    /// The number of the specification, 1 to 12; that of a target without space for `Limit`.
     pub fn number(self) -> u8 {
         match self {
             Refusal::TooLong => 1,
@@ -50,7 +52,7 @@ impl Refusal {
             Refusal::Ampersand { .. } => 7,
             Refusal::Position { .. } => 8,
             Refusal::Bindings => 9,
-            Refusal::Space { .. } => 10,
+            Refusal::Space { .. } | Refusal::Limit { .. } => 10,
             Refusal::NoticeSpace { .. } => 11,
             Refusal::Forged => 12,
         }
@@ -76,6 +78,9 @@ impl fmt::Display for Refusal {
             Refusal::Space { needed } => write!(f, "there is no room for the {needed} bytes to be written"),
             Refusal::NoticeSpace { needed } => write!(f, "there is no room for the {needed} bytes of notices"),
             Refusal::Forged => write!(f, "the state is not one that this job and this text can have"),
+            Refusal::Limit { needed, limit } => {
+                write!(f, "{needed} bytes more would go beyond the limit of {limit} bytes that is set for this job's calls or notices")
+            }
         }
     }
 }

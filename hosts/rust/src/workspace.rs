@@ -1,15 +1,31 @@
-use crate::lists::{put_list, too_long};
-use crate::{raw, JobRefusal, Refusal, RootRefusal};
+use crate::lists::{put_list, roots_in, too_long};
+use crate::target::Target;
+use crate::{raw, JobRefusal, Refusal, RootRefusal, DEFAULT_LIMIT};
+use std::fmt;
 
 // No record tape is longer: two groups, and eight records of three bytes.
 const RECORDS: usize = 32;
 
 /// Memory for whole jobs, which goes from job to job and is neither cleared nor shown.
-#[derive(Clone, Debug, Default)]
+#[derive(Clone)]
 pub struct Workspace {
     list: Vec<u8>,
-    calls: Vec<u8>,
-    notices: Vec<u8>,
+    calls: Target,
+    notices: Target,
+    limit: usize,
+}
+
+impl Default for Workspace {
+    fn default() -> Workspace {
+        Workspace::with_limit(DEFAULT_LIMIT)
+    }
+}
+
+// The bytes are those of earlier jobs.
+impl fmt::Debug for Workspace {
+    fn fmt(&self, f: &mut fmt::Formatter<'_>) -> fmt::Result {
+        f.debug_struct("Workspace").field("limit", &self.limit).finish_non_exhaustive()
+    }
 }
 
 /// What a whole job gave.
@@ -28,6 +44,12 @@ impl Output<'_> {
 }
 
 impl Workspace {
+    /// Memory for jobs whose calls take at most so many bytes, and their notices as many. A job that would go beyond it is refused by `Refusal::Limit`.
+    pub fn with_limit(bytes: usize) -> Workspace {
+        let (calls, notices) = (Target::default(), Target::default());
+        Workspace { list: Vec::new(), calls, notices, limit: bytes }
+    }
+
     /// A job from its opening tape to its records: the quickest way, where no root waits for what another gave.
     pub fn lower<R: AsRef<[u8]>>(
         &mut self,
@@ -37,28 +59,24 @@ impl Workspace {
     ) -> Result<Output<'_>, JobRefusal> {
         let too_long = too_long(roots);
         put_list(&roots[..too_long.unwrap_or(roots.len())], &mut self.list);
-        // room for all that roots can give whose texts don't overlap
-        self.make_room(4 * self.list.len() + 6 * text.len());
+        self.make_room(text);
         let mut records = [0; RECORDS];
         loop {
-            let (run, answer) =
-                raw::job(text, tape, &self.list, &mut self.calls, &mut self.notices, &mut records);
+            let (calls, notices) = (self.calls.lent(self.limit), self.notices.lent(self.limit));
+            let (run, answer) = raw::job(text, tape, &self.list, calls, notices, &mut records);
+            let at = |index, refusal| JobRefusal::Root(RootRefusal { index, refusal });
             match (run.stage, answer) {
-                (1, Err(Refusal::Space { needed })) => self.make_room(run.call_fill + needed),
                 (0, Err(refusal)) => return Err(JobRefusal::Opening(refusal)),
                 (1, Err(refusal)) => {
-                    return Err(JobRefusal::Root(RootRefusal { index: run.taken, refusal }))
+                    self.grow(&run, refusal).map_err(|refusal| at(run.taken, refusal))?
                 }
                 (_, Err(refusal)) => return Err(JobRefusal::Records(refusal)),
                 (_, Ok(())) => match too_long {
-                    Some(index) => {
-                        let refusal = Refusal::TooLong;
-                        return Err(JobRefusal::Root(RootRefusal { index, refusal }));
-                    }
+                    Some(index) => return Err(at(index, Refusal::TooLong)),
                     None => {
                         return Ok(Output {
-                            calls: &self.calls[..run.call_fill],
-                            notices: &self.notices[..run.notice_fill],
+                            calls: &self.calls.bytes[..run.call_fill],
+                            notices: &self.notices.bytes[..run.notice_fill],
                             records,
                             size: run.figure,
                         })
@@ -68,12 +86,23 @@ impl Workspace {
         }
     }
 
-    fn make_room(&mut self, calls: usize) {
-        if self.calls.len() < calls {
-            self.calls.resize(calls.max(2 * self.calls.len()), 0);
+    // As in `Job`: by the library's figure, where there is less than roots take whose texts don't overlap.
+    fn make_room(&mut self, text: &[u8]) {
+        if self.calls.free(self.limit) < 4 * self.list.len() + 6 * text.len() {
+            let bound = roots_in(&self.list).map(raw::call_room).sum();
+            let _ = self.calls.make_room(bound, self.limit);
         }
-        if self.notices.len() < self.list.len() {
-            self.notices.resize(self.list.len(), 0);
+        let _ = self.notices.make_room(self.list.len(), self.limit);
+    }
+
+    // The room that a root asks for behind those before it, which are lowered again with it.
+    fn grow(&mut self, run: &raw::JobRun, refusal: Refusal) -> Result<(), Refusal> {
+        match refusal {
+            Refusal::Space { needed } => self.calls.make_room(run.call_fill + needed, self.limit),
+            Refusal::NoticeSpace { needed } => {
+                self.notices.make_room(run.notice_fill + needed, self.limit)
+            }
+            refusal => Err(refusal),
         }
     }
 }

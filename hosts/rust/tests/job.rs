@@ -165,6 +165,72 @@ fn texts_that_overlap() {
     assert_eq!(job.into_tapes().0.len(), 20 + 8 * string);
 }
 
+// the calls of these texts take 1.4 MB
+#[test]
+fn a_limit() {
+    let (text, roots) = (lines(), [root(&A), overlapping()]);
+    let needed = 20 + 8 * (2 + 30_000 * 5 + 29_999);
+    let limit = needed + CALLS.len();
+    let refused = Refusal::Limit { needed, limit: limit - 1 };
+    for (limit, refusal) in [(limit, None), (limit - 1, Some(refused))] {
+        let mut job = open(text.as_bytes());
+        job.set_limit(limit);
+        job.lower_root(&roots[0]).unwrap();
+        assert_eq!(job.lower_root(&roots[1]).err(), refusal);
+        let mut listed = open(text.as_bytes());
+        listed.set_limit(limit);
+        let told = listed.lower_roots(&roots).err();
+        assert_eq!(told, refusal.map(|refusal| RootRefusal { index: 1, refusal }));
+        assert!(job.calls() == listed.calls() && job.calls()[..17] == CALLS);
+        let mut workspace = Workspace::with_limit(limit);
+        let told = workspace.lower(text.as_bytes(), &settings().tape(), &roots).err();
+        let whole = |refusal| match refusal {
+            Refusal::Limit { needed, limit } => {
+                Refusal::Limit { needed: needed + CALLS.len(), limit }
+            }
+            other => other,
+        };
+        let at = |refusal| JobRefusal::Root(RootRefusal { index: 1, refusal: whole(refusal) });
+        assert_eq!(told, refusal.map(at));
+    }
+    assert_eq!(refused.number(), 10);
+    assert!(refused.to_string().contains("beyond the limit of"));
+    // memory of an earlier job is no room beyond the limit
+    let mut job = Job::open_in(b"a", &settings().tape(), (vec![0; 100], vec![])).unwrap();
+    job.set_limit(16);
+    assert_eq!(job.lower_root(&root(&A)).unwrap_err(), Refusal::Limit { needed: 17, limit: 16 });
+}
+
+// what an earlier job wrote is not shown
+#[test]
+fn shown_for_debugging() {
+    let job = Job::open_in(b"a", &settings().tape(), (vec![0xab; 100], vec![0xab; 100])).unwrap();
+    assert!(!format!("{job:?}").contains("171"));
+    let mut workspace = Workspace::default();
+    workspace.lower(b"a", &settings().tape(), &[root(&A)]).unwrap();
+    assert_eq!(format!("{workspace:?}"), "Workspace { limit: 67108864, .. }");
+}
+
+// the deepest tape that is taken, each level but the first an attribute's value, on a thread with the stack that the header asks for
+#[test]
+fn stack() {
+    let level = [0x10, 0, 0, 0, 0, 0, 0, 0, 0, 0x20, 0, 0, 1, 0];
+    let mut tape = vec![1, 0, 2, 3];
+    for depth in 1..=64 {
+        tape.extend_from_slice(&level);
+        if depth < 64 {
+            tape.extend_from_slice(&[0x30, 0, 0, 1, 0]);
+        }
+    }
+    tape.extend_from_slice(&[0x1e, 0x1f].repeat(64));
+    let lowered = std::thread::Builder::new().stack_size(256 << 10).spawn(move || {
+        let settings = Settings { development: true, ..settings() };
+        let mut job = Job::open(b"a", &settings.tape()).unwrap();
+        job.lower_root(&tape).unwrap().calls.len()
+    });
+    assert_eq!(lowered.unwrap().join().unwrap(), 64 * 30 + 63 * 5);
+}
+
 #[test]
 fn memory_used_again() {
     let mut first = open(b"a");
