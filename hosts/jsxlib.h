@@ -13,8 +13,7 @@
  *      9  more than 8 bindings                                        8
  *     10  target (or state) has no room                               bytes that this entry would write
  *     11  notice target has no room                                   the same, of notices
- *     12  forged: no state's bytes, or a state that neither this    0
- *         text nor any series of roots bears out
+ *     12  forged: no state's bytes, or no state of this text          0
  *
  * What a refusal leaves: the state's bytes and every target as they were, in jsx_open, jsx_root and jsx_records. jsx_roots and jsx_job lower the roots before the
  * one that is refused, and leave these: `taken` says how many. So after 10 or 11 from jsx_roots call it again with more room and with the list cut behind its first
