@@ -10,13 +10,14 @@ ghost use mathlib.Core.Path.{_≡_};
 ghost use mathlib.Core.Bool.{cond};
 ghost use Prim.Native.Nat.{_≤_, _<_};
 ghost use lib.ListN.{length, drop};
-ghost use Rattle.definitions.specs.Comments.{leadsIn, placeFrom, keywordOf, seek, valueStart, valueOf, withRuntime, applied, withComment, withComments};
-ghost use Rattle.comments.specs.Searches.{isIn, stands, begins, keywordFor, knownFor, searchFor};
+ghost use Rattle.definitions.specs.Comments.{leadsIn, placeFrom, keywordOf, seek, valueOf, withRuntime, applied, withComment, withComments};
+ghost use Rattle.comments.specs.Searches.{isIn, stands, fourAt, byteAt, pragmaType, knownFor, keywordFor, searchFor, pragmaBy, pragmaFrom};
 ghost use Rattle.comments.specs.Tapes.{commentsOf};
 use definitions::options::Flags;
 use definitions::options::Optional;
 use definitions::options::Options;
 use tape::numbers::read_span;
+use tape::numbers::read_u32;
 use text::bytes::Found;
 use text::bytes::same;
 use text::spans::Span;
@@ -30,16 +31,37 @@ enum PragmaType {
     JsxFrag,
 }
 
+// The types as numbers, which can be told through a `&mut`.
+const JSX: u8 = 0;
+
+const JSX_RUNTIME: u8 = 1;
+
+const JSX_IMPORT_SOURCE: u8 = 2;
+
+const JSX_FRAG: u8 = 3;
+
 // What follows `@jsx`.
 enum Keyword {
     Known(PragmaType),
     Unknown,
 }
 
-// The next pragma: its type and the place behind the byte that ends its keyword.
+// The next keyword that is known: its type and the place behind the byte that ends it.
 enum Search {
     Pragma(PragmaType, usize),
     Nothing,
+}
+
+// Four bytes as a number, the lowest first, where so many are left.
+enum Four {
+    Bytes(u32),
+    Cut,
+}
+
+// A byte, where one is left.
+enum Next {
+    Byte(u8),
+    End,
 }
 
 // The bytes that are looked for.
@@ -97,14 +119,27 @@ fn stands_well(comment: &[u8], from: usize, sign: usize) -> bool
     leads_in(comment[sign - 1])
 }
 
-fn begins_jsx(comment: &[u8], sign: usize) -> bool
+// `@jsx` as a number.
+const AT_JSX: u32 = 0x78736a40;
+
+// The four bytes from an at sign on, which are compared at once.
+fn next4(comment: &[u8], sign: usize) -> Four
     requires { ⌜ sign ≤ length (now comment) ⌝ }
-    ensures { λ r. ⌜ r ≡ begins (now (comment .entry)) sign ⌝ }
+    ensures { λ r. ⌜ r ≡ fourAt (now (comment .entry)) sign ⌝ }
 {
     if comment.len() - sign < 4 {
-        return false;
+        return Four::Cut;
     }
-    same(&comment[sign..sign + 4], b"@jsx")
+    Four::Bytes(read_u32(comment, sign))
+}
+
+fn byte_at(comment: &[u8], i: usize) -> Next
+    ensures { λ r. ⌜ r ≡ byteAt (now (comment .entry)) i ⌝ }
+{
+    if i < comment.len() {
+        return Next::Byte(comment[i]);
+    }
+    Next::End
 }
 
 fn keyword_of(word: &[u8]) -> Keyword
@@ -125,8 +160,30 @@ fn keyword_of(word: &[u8]) -> Keyword
     Keyword::Unknown
 }
 
-// The next pragma of a comment, of which what is left begins at `start`.
-fn find_jsx_pragma(comment: &[u8], start: usize) -> Search
+fn number_of(kind: PragmaType) -> u8
+    ensures { λ r. ⌜ pragmaType r ≡ kind ⌝ }
+{
+    match kind {
+        PragmaType::Jsx => JSX,
+        PragmaType::JsxRuntime => JSX_RUNTIME,
+        PragmaType::JsxImportSource => JSX_IMPORT_SOURCE,
+        PragmaType::JsxFrag => JSX_FRAG,
+    }
+}
+
+fn type_of(number: u8) -> PragmaType
+    ensures { λ r. ⌜ r ≡ pragmaType number ⌝ }
+{
+    match number {
+        JSX => PragmaType::Jsx,
+        JSX_RUNTIME => PragmaType::JsxRuntime,
+        JSX_IMPORT_SOURCE => PragmaType::JsxImportSource,
+        _ => PragmaType::JsxFrag,
+    }
+}
+
+// The next known keyword of a comment, of which what is left begins at `start`.
+fn find_keyword(comment: &[u8], start: usize) -> Search
     requires { ⌜ start ≤ length (now comment) ⌝ }
     ensures { λ r. ⌜ searchFor r ≡ seek (length (now (comment .entry))) (now (comment .entry)) start ⌝ }
 {
@@ -141,16 +198,19 @@ fn find_jsx_pragma(comment: &[u8], start: usize) -> Search
         if !counts {
             continue 'signs;
         }
-        if !begins_jsx(comment, sign) {
+        let Four::Bytes(bytes) = next4(comment, sign) else {
+            return Search::Nothing;
+        };
+        if bytes != AT_JSX {
             continue 'signs;
         }
         let first = sign + 4;
         let mut end = first;
         let word = loop {
-            if end >= comment.len() {
+            let Next::Byte(b) = byte_at(comment, end) else {
                 return Search::Nothing;
-            }
-            if is_in(Class::Blank, comment[end]) {
+            };
+            if is_in(Class::Blank, b) {
                 break &comment[first..end];
             }
             end += 1;
@@ -164,16 +224,6 @@ fn find_jsx_pragma(comment: &[u8], start: usize) -> Search
     Search::Pragma(kind, from)
 }
 
-// The part of a comment that is left behind spaces and tabs.
-fn skip_blanks(comment: &[u8], from: usize) -> &[u8]
-    ensures { λ r. ⌜ now r ≡ drop (valueStart (now (comment .entry)) from) (now (comment .entry)) ⌝ }
-{
-    let Found::At(i) = place_from(comment, from, Class::Ink) else {
-        return &comment[comment.len()..];
-    };
-    &comment[i..]
-}
-
 // The part of what is left up to white space.
 fn value_of(rest: &[u8]) -> &[u8]
     ensures { λ r. ⌜ now r ≡ valueOf (now (rest .entry)) ⌝ }
@@ -182,6 +232,25 @@ fn value_of(rest: &[u8]) -> &[u8]
         return rest;
     };
     &rest[0..n]
+}
+
+// The next pragma of a comment, of which what is left begins at `*at`: its value, a part of the comment, and behind `kind` and `at` its type and the
+// place where the value ends. An empty part: there is none.
+fn find_jsx_pragma<'a>(comment: &'a [u8], at: &mut usize, kind: &mut u8) -> &'a [u8]
+    requires { ⌜ now at ≤ length (now comment) ⌝ }
+    ensures { λ r. ⌜ pragmaBy (knownFor (pragmaType (now (kind .exit)))) (now r) (now (at .exit)) ≡ pragmaFrom (now (comment .entry)) (now (at .entry)) ⌝ }
+{
+    let none = &comment[0..0];
+    let Search::Pragma(found, from) = find_keyword(comment, *at) else {
+        return none;
+    };
+    let Found::At(start) = place_from(comment, from, Class::Ink) else {
+        return none;
+    };
+    let value = value_of(&comment[start..]);
+    *kind = number_of(found);
+    *at = start + value.len();
+    value
 }
 
 // A new value where it is to be set, else the old one.
@@ -265,27 +334,22 @@ fn update_options_with_comment(text: &[u8], options: Options, comment: Span) -> 
     let content = part(text, comment);
     let base = comment.start as usize;
     let mut held = options;
-    let mut from = 0;
+    let mut at = 0;
+    let mut kind = JSX;
     loop {
-        let Search::Pragma(kind, after) = find_jsx_pragma(content, from) else {
-            return held;
-        };
-        let rest = skip_blanks(content, after);
-        let value = value_of(rest);
+        let value = find_jsx_pragma(content, &mut at, &mut kind);
         if value.len() == 0 {
             return held;
         }
-        let start = content.len() - rest.len();
         let span = Span {
-            start: (base + start) as u16,
+            start: (base + at - value.len()) as u16,
             len: value.len() as u16,
         };
-        held = apply(held, kind, span, value);
-        let end = start + value.len();
-        if end >= content.len() {
+        held = apply(held, type_of(kind), span, value);
+        if at >= content.len() {
             return held;
         }
-        from = end + 1;
+        at += 1;
     }
 }
 
