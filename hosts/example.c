@@ -3,6 +3,7 @@
  *     cc -Ihosts hosts/example.c target/staticlib/libjsxlib.a -o example && ./example
  */
 #include <stdio.h>
+#include <string.h>
 #include "jsxlib.h"
 
 static void print_line(const char *word, const uint8_t *bytes, size_t size) {
@@ -37,6 +38,15 @@ int main(void) {
     number = jsx_records(text, sizeof text, state, sizeof state, records, sizeof records, &figure);
     if (number != 0) return refused(number, figure);
     print_line("records", records, figure);
+
+    /* what B0 01 stands for, and that nothing in the settings says otherwise */
+    uint8_t source[32], settings[JSX_SETTINGS_SIZE];
+    number = jsx_source(text, sizeof text, state, sizeof state, 1, source, sizeof source, &figure);
+    if (number != 0) return refused(number, figure);
+    if (figure != 17 || memcmp(source, "react/jsx-runtime", 17) != 0) return 1;
+    number = jsx_settings(text, sizeof text, state, sizeof state, settings, sizeof settings, &figure);
+    if (number != 0) return refused(number, figure);
+    if (figure != JSX_SETTINGS_SIZE || settings[0] != 0xe1 || settings[27] != 0) return 1;
 
     /* the same root once more, from a list: its calls are the same, since its binding is there already */
     size_t before = calls_filled;

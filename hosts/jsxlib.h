@@ -15,7 +15,7 @@
  *     11  notice target has no room                                   the same, of notices
  *     12  forged: no state's bytes, or no state of this text          0
  *
- * What a refusal leaves: the state's bytes and every target as they were, in jsx_open, jsx_root and jsx_records. jsx_roots and jsx_job lower the roots before the
+ * What a refusal leaves: the state's bytes and every target as they were, in jsx_open, jsx_root, jsx_records, jsx_settings and jsx_source. jsx_roots and jsx_job lower the roots before the
  * one that is refused, and leave these: `taken` says how many. So after 10 or 11 from jsx_roots call it again with more room and with the list cut behind its first
  * `taken` roots; called with the whole list it would lower those a second time. jsx_job keeps no state and is called again as it was.
  *
@@ -52,7 +52,7 @@ uint8_t jsx_root(const uint8_t *text, size_t text_len, uint8_t *state, size_t st
 /* Lowers the roots of a list in turn, up to the first that is refused. On the list each root stands behind its length, two bytes with the low one first.
  * `taken` is how many were lowered; the state and the targets are as these left them. On 0 that is all of them; else the number and the figure are the
  * refusal of the root with that index, counted from 0. A list that is cut short is refused by 3 with the list's length, behind its whole roots.
- * The text is tested once for the whole list, while jsx_root tests it for each root. */
+ * Text and state are tested once for the whole list, also for one without roots, while jsx_root tests them for each root. */
 uint8_t jsx_roots(const uint8_t *text, size_t text_len, uint8_t *state, size_t state_len, const uint8_t *roots, size_t roots_len, uint8_t *calls,
                   size_t calls_len, uint8_t *notices, size_t notices_len, size_t *taken, size_t *figure);
 
@@ -60,10 +60,32 @@ uint8_t jsx_roots(const uint8_t *text, size_t text_len, uint8_t *state, size_t s
 uint8_t jsx_records(const uint8_t *text, size_t text_len, const uint8_t *state, size_t state_len, uint8_t *target, size_t target_len,
                     size_t *figure);
 
+/* The settings as they stand after the comments, at the front of `target`. On 0 the figure is JSX_SETTINGS_SIZE, and the bytes are, numbers with the low byte first:
+ *
+ *      0   the flags, bit by bit as on the opening tape, after the comments
+ *      1   five parts of the text, five bytes each: 1 and its start and length as two bytes each, or five zeros where there is none. They are the pragma, the
+ *          fragment pragma, the import source, and the pragma and the fragment pragma that comments set for TypeScript
+ *     26   whether calls are pure: 0 or 1
+ *     27   how the job names what its calls need: 0 by imports (a module), 1 by requires (a script), 2 by pragmas (classic)
+ *     28   the pragma of a classic job, what 98 00 stands for: a byte for its root (0 none that is valid: React.createElement; 1 `this`; 2 `import.meta`; 3 an
+ *          identifier), and eight for how many names follow it. The names are those of the part above
+ *     37   the same of the fragment pragma, what 98 01 stands for (0: React.Fragment)
+ *
+ * Refused as jsx_records is: 1, 2, 12, 10. */
+#define JSX_SETTINGS_SIZE 46
+uint8_t jsx_settings(const uint8_t *text, size_t text_len, const uint8_t *state, size_t state_len, uint8_t *target, size_t target_len,
+                     size_t *figure);
+
+/* The text of the source that a B0 of the record tape names, 0 the import source and 1 the runtime source (as any other number), at the front of `target`. On 0 the
+ * figure is its length. Refused as jsx_records is: 1, 2, 12, 10. */
+uint8_t jsx_source(const uint8_t *text, size_t text_len, const uint8_t *state, size_t state_len, uint8_t source, uint8_t *target, size_t target_len,
+                   size_t *figure);
+
 /* A whole job at once: its opening, the roots of a list (as for jsx_roots) and its records, with no state in between. `calls` and `notices` are filled from their
  * fronts as far as `call_fill` and `notice_fill` say. On 0 `stage` is 2, and the figure is the length of the record tape at the front of `records`. A refusal
  * ends the job: `stage` is 0 where it is that of the opening, 1 where it is that of the root with the index `taken` or of a list that is cut short behind so
- * many, 2 where the records have no room. The roots before it have been lowered, and the records are not written. */
+ * many, 2 where the records have no room. The roots before it have been lowered, and the records are not written. Where the settings are wanted too, jsx_open and
+ * jsx_settings tell them. */
 uint8_t jsx_job(const uint8_t *text, size_t text_len, const uint8_t *job, size_t job_len, const uint8_t *roots, size_t roots_len, uint8_t *calls,
                 size_t calls_len, uint8_t *notices, size_t notices_len, uint8_t *records, size_t records_len, size_t *stage, size_t *taken,
                 size_t *call_fill, size_t *notice_fill, size_t *figure);

@@ -76,6 +76,11 @@ def libraries():
     return sorted(name for name in os.listdir(folder) if os.path.exists(os.path.join(folder, name, "src", "lib.rt")))
 
 
+def programs():
+    """The programs that have edits."""
+    return sorted(name for name in os.listdir(HERE) if os.path.exists(os.path.join(ROOT, "crates", name, "src", "main.rt")))
+
+
 def uncovered(crate):
     """The exported functions with fewer than two edits of their own: of the body, or of a private function that no other exported one reaches."""
     from functions import reached

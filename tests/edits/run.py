@@ -19,7 +19,7 @@ import tempfile
 import time
 
 sys.dont_write_bytecode = True
-from edits import HERE, ROOT, libraries, of_crate, uncovered  # noqa: E402
+from edits import ROOT, libraries, of_crate, programs, uncovered  # noqa: E402
 from functions import functions  # noqa: E402
 import verdicts  # noqa: E402
 
@@ -146,10 +146,10 @@ def logged(crate):
 
 def main():
     words = [word for word in sys.argv[1:] if word != "--logs"]
-    crates = words or libraries()
+    crates = words or libraries() + programs()
     right = wanted = runs = 0
     for crate in crates:
-        for path, count in uncovered(crate):
+        for path, count in uncovered(crate) if crate in libraries() else ():
             print(f"edits: {path} has {count} of its own, not two")
             wanted += 1
     if "--logs" in sys.argv:

@@ -49,7 +49,7 @@ def table(part):
     examples = (top / "crates/definitions/specs/Examples.antt").read_text()
     head = examples[:examples.index("-- ---- how rows are written")].replace("Rattle.definitions.specs.", "Rattle.definitions.specs.")
     unfolded = examples[examples.index("unfolding", examples.index("\ncomputed :")):examples.index("computed = (refl, refl)")]
-    names = "digit, hexOf, hex, prints, output, pairOf, replyTo, Row, _gives_"
+    names = "digit, hexOf, hex, prints, output, pairsOf, meaningOf, meaning, replyTo, Row, _gives_"
     return (head + f"use Rattle.definitions.specs.Examples.{{{names}}}\n\nabbrev table : List Row\ntable =\n    " + "\n    ∷ ".join(part)
         + "\n    ∷ []\n\npub computed : map (λ r. replyTo (r .asked)) table ≡ map (λ r. r .expected) table\n" + unfolded + "computed = refl\n")
 

@@ -67,6 +67,15 @@ def bears_out(text, span):
     return end <= len(text) and all(place == len(text) or text[place] & 0xC0 != 0x80 for place in (start, end))
 
 
+def bears_out_form(text, settings, span, form):
+    """Whether the text gives this form of a pragma. A classic job has none with a byte over 7F, since its opening is refused (5), so that no form fits one."""
+    if not settings.classic:
+        return form in ("-", "default.0")
+    if span is not None and any(byte > 0x7F for byte in text[span[0]:span[0] + span[1]]):
+        return False
+    return (form if form != "-" else "default.0") == form_of(text, span)
+
+
 def can_bind(settings):
     """What jobs with these settings can import, require or name."""
     things = [(None, FILE)] if settings.source else []
@@ -81,10 +90,9 @@ def is_forged(text, state):
     s = state.settings
     if state.count > MOST or not all(bears_out(text, getattr(s, name)) for name in SPANS):
         return True
-    borne = [form_of(text, span) if s.classic else "default.0" for span in (s.pragma, s.frag)]
     things = [thing for thing, _ in state.records]
     return (
-        [form if form != "-" else "default.0" for form in s.forms] != borne
+        not all(bears_out_form(text, s, span, form) for span, form in zip((s.pragma, s.frag), s.forms))
         or [binding for _, binding in state.records] != list(range(len(things)))
         or len(set(things)) != len(things)
         or any(thing not in can_bind(s) for thing in things)

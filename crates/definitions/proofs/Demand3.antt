@@ -17,7 +17,7 @@ use Rattle.definitions.specs.Calls.{Command, callBytes, noticeBytes, rea
 use Rattle.definitions.specs.Store.{boundAfter, numberedAll}
 use Rattle.definitions.specs.Lowering.{isClassic}
 use Rattle.definitions.specs.Records.{placeIn, Entry}
-use Rattle.definitions.specs.States.{unrepeated}
+use Rattle.definitions.specs.States.{live, unrepeated}
 use Rattle.definitions.specs.Entries.{recordsFrom, judgeRecords, recordsAnswer, recordsTarget}
 use Rattle.definitions.specs.Series.{World, opening, series, acceptedIn, treesOf, callsSoFar, noticesSoFar}
 use Rattle.definitions.specs.Callees.{calleeNamed, calleesOfRoots, calleesRead}
@@ -28,6 +28,7 @@ use Rattle.definitions.proofs.Soundness.{imports-records}
 use Rattle.definitions.proofs.Verdicts.{sound-parts}
 use Rattle.definitions.proofs.Openings.{Opens, opening-opens}
 use Rattle.definitions.proofs.TapeEntries.{tape-count}
+use Rattle.definitions.proofs.EntryBytes.{tape-bytes}
 use Rattle.definitions.proofs.BoundEntries.{entriesFor, of-below, of-once, shared-once, more-entries}
 use Rattle.definitions.proofs.CalleeTree.{commandsOfRoots, all-callees}
 use Rattle.definitions.proofs.CalleeRecords.{callees-read}
@@ -45,6 +46,9 @@ module _ (text : List ℕ) (s : Settings) (w : World) (rs : List Root) (c : Came
 
   calls-are : readCalls (callsSoFar w) ≡ numberedAll [] commands
   calls-are = ap readCalls (c .calls) ∙ calls-back (numberedAll [] commands)
+
+  calls-whole : callBytes (readCalls (callsSoFar w)) ≡ callsSoFar w
+  calls-whole = ap callBytes calls-are ∙ sym (c .calls)
 
   -- the records are those of the things bound
   records-are : (p : Entry → Bool) → count p (recordsSoFar w) ≡ count p (entriesFor (placeIn (s .mode)) 0 things)
@@ -105,6 +109,8 @@ demand3 text job s e calls notices roots =
     record {
       calls-so-far = c .calls ∙ sym (calls-of-all text s [] rs);
       notices-so-far = c .notices ∙ sym (notices-of-all text s [] rs);
+      calls-read = calls-whole text s w rs c;
+      records-read = tape-bytes (w .state .settings .mode) (live (w .state));
       written-records = λ target h.
           let j = writes text s w rs c o (length target) h in
           (ap recordsAnswer j, ap (recordsTarget target) j);

@@ -9,6 +9,7 @@ pub mod Moving
 pub mod CommentSpans
 pub mod Openings
 pub mod TapeEntries
+pub mod EntryBytes
 pub mod BoundEntries
 pub mod Survival
 pub mod SymbolicCallees

@@ -26,8 +26,8 @@ use Rattle.definitions.specs.declared.options.Form.{Form}
 use Rattle.definitions.specs.declared.options.Options.{Options}
 use Rattle.definitions.specs.declared.options.Settings.{Settings}
 use Rattle.definitions.specs.Judging.{Parsed, done, stop, from, spanned, accepted, tooLong}
-use Rattle.definitions.specs.Opening.{Opening, bare, withPragma, withPragmaFrag, withImportSource, andComment, optionBy, optionsFrom, openingBy, readOpening, optionsOf, settingsOf, pragmasChecked, judgeOpening}
-use Rattle.definitions.specs.States.{inOrder, borneOut, rootNumber, sameForm, numberedFrom, unrepeated, allBindable, sound}
+use Rattle.definitions.specs.Opening.{Opening, bare, withPragma, withPragmaFrag, withImportSource, andComment, optionBy, optionsFrom, openingBy, readOpening, optionsOf, settingsOf, overAsciiIn, ifClassic, pragmasChecked, judgeOpening}
+use Rattle.definitions.specs.States.{inOrder, borneOut, rootNumber, sameForm, formBorneOut, numberedFrom, unrepeated, allBindable, sound}
 use Rattle.definitions.specs.Entries.{openState}
 use Rattle.definitions.proofs.Counting.{either-false}
 use Rattle.definitions.proofs.Verdicts.{past, past-at, past-read, accepted-same, Sound, sound-whole}
@@ -120,13 +120,19 @@ options-borne text good o h =
 same-form : (f : Form) → sameForm f f ≡ true
 same-form f = rw (eq-eqb (rootNumber (f .root)) (rootNumber (f .root)) refl, eq-eqb (f .tail) (f .tail) refl)
 
-open-sound : (text : List ℕ) (o : Options) → Borne text o → Sound text (openState (settingsOf text o))
-unfolding settingsOf numberedFrom unrepeated allBindable
-open-sound text o h =
+-- in classic settings no pragma has a byte over 7F
+abbrev Ascii : List ℕ → Settings → Type 0
+Ascii text s =
+    (ifClassic (s .mode) (overAsciiIn text (s .options .pragma)) ≡ found.Nothing)
+    × (ifClassic (s .mode) (overAsciiIn text (s .options .«pragma_frag»)) ≡ found.Nothing)
+
+open-sound : (text : List ℕ) (o : Options) → Borne text o → Ascii text (settingsOf text o) → Sound text (openState (settingsOf text o))
+unfolding settingsOf formBorneOut numberedFrom unrepeated allBindable
+open-sound text o h a =
     record {
       few = omega arith;
       spans = borne-whole text o h;
-      forms = rw (same-form (settingsOf text o .pragma), same-form (settingsOf text o .«pragma_frag»));
+      forms = rw (a .0, a .1, same-form (settingsOf text o .pragma), same-form (settingsOf text o .«pragma_frag»));
       gapless = refl;
       apart = refl;
       made = refl;
@@ -151,7 +157,7 @@ opening-opens text job s e =
     record {
       short = either-false (tooLong text) (tooLong job) (a .0) .0;
       well-formed = b .0;
-      bore = rw (← q) (sound-whole text (openState (settingsOf text o)) (open-sound text o borne));
+      bore = rw (← q) (sound-whole text (openState (settingsOf text o)) (open-sound text o borne (f .0, g .0)));
     }
 
 pub opening-sound : (text job : List ℕ) (s : Settings) → judgeOpening text job ≡ accepted s → sound text (openState s) ≡ true

@@ -32,25 +32,25 @@ entriesOf place [] = []
 entriesOf place (r ∷ rs) = entryOf place (r .import) (r .binding) ∷ entriesOf place rs
 
 -- the entries in the group of source s
-inGroup : ℕ → Import → ℕ → List Entry
+unfoldable pub inGroup : ℕ → Import → ℕ → List Entry
 inGroup s (Named t n) b = cond (eqb s t) (named s n b ∷ []) []
 inGroup s (Default t) b = cond (eqb s t) (required s b ∷ []) []
 inGroup s FileName b = []
 
-allInGroup : ℕ → List Record → List Entry
+unfoldable pub allInGroup : ℕ → List Record → List Entry
 allInGroup s [] = []
 allInGroup s (r ∷ rs) = inGroup s (r .import) (r .binding) ++ allInGroup s rs
 
-groupEntries : List Record → List ℕ → List Entry
+unfoldable pub groupEntries : List Record → List ℕ → List Entry
 groupEntries rs [] = []
 groupEntries rs (s ∷ ss) = allInGroup s rs ++ groupEntries rs ss
 
-fileEntry : ℕ → Import → ℕ → List Entry
+unfoldable pub fileEntry : ℕ → Import → ℕ → List Entry
 fileEntry place (Named s n) b = []
 fileEntry place (Default s) b = []
 fileEntry place FileName b = file b place ∷ []
 
-fileEntries : ℕ → List Record → List Entry
+unfoldable pub fileEntries : ℕ → List Record → List Entry
 fileEntries place [] = []
 fileEntries place (r ∷ rs) = fileEntry place (r .import) (r .binding) ++ fileEntries place rs
 
@@ -97,7 +97,7 @@ file-read place (r ∷ rs) x = go (r .import) (file-read place rs x)
     go (Default s) ih = ih
     go FileName ih = ap (file (r .binding) place ∷_) ih
 
-tape-read : (m : Mode) (rs : List Record)
+pub tape-read : (m : Mode) (rs : List Record)
     → readRecords (recordTape m rs) ≡ groupEntries rs (groupsFrom [] rs) ++ fileEntries (placeIn m) rs
 unfolding recordTape
 tape-read m rs =
@@ -174,7 +174,7 @@ group-count false t s gs h = go (isAmong s gs) refl (eqb s t) refl
     go false p false q = let l = rw q at last in omega (arith, l)
 
 -- no source stands twice
-abbrev Distinct : List ℕ → Type 0
+abbrev pub Distinct : List ℕ → Type 0
 Distinct gs = (t : ℕ) → count (eqb t) gs ≤ 1
 
 -- the source of a thing stands once
@@ -237,6 +237,15 @@ unfolding groupsFrom
 grouped-from gs [] h = tt
 grouped-from gs (r ∷ rs) h =
     (still-grouped (groupedBy gs (r .import)) rs (r .import) (by-new gs (r .import) h), grouped-from (groupedBy gs (r .import)) rs (by-distinct gs (r .import) h))
+
+from-distinct : (gs : List ℕ) (rs : List Record) → Distinct gs → Distinct (groupsFrom gs rs)
+unfolding groupsFrom
+from-distinct gs [] h = h
+from-distinct gs (r ∷ rs) h = from-distinct (groupedBy gs (r .import)) rs (by-distinct gs (r .import) h)
+
+pub distinct-groups : (rs : List Record) → Distinct (groupsFrom [] rs)
+unfolding count
+distinct-groups rs = from-distinct [] rs (λ t. omega arith)
 
 pub all-grouped : (rs : List Record) → AllGrouped (groupsFrom [] rs) rs
 unfolding count

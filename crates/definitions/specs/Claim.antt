@@ -13,9 +13,9 @@ use Rattle.definitions.specs.declared.state.Written.{Written}
 use Rattle.definitions.specs.declared.state.Written.the-variants as written
 use Rattle.definitions.specs.Judging.{Judged, accepted}
 use Rattle.definitions.specs.Opening.{judgeOpening}
-use Rattle.definitions.specs.Calls.{Command, bare, byte, over, span, binding, source, readCalls}
+use Rattle.definitions.specs.Calls.{Command, bare, byte, over, span, binding, source, callBytes, readCalls}
 use Rattle.definitions.specs.Lowering.{isClassic}
-use Rattle.definitions.specs.Records.{recordTape, Entry, named, required, file, readRecords}
+use Rattle.definitions.specs.Records.{recordTape, Entry, named, required, file, readRecords, outside, entryBytes}
 use Rattle.definitions.specs.States.{live}
 use Rattle.definitions.specs.Entries.{laid, judgeRecords, recordsAnswer, recordsTarget}
 use Rattle.definitions.specs.Series.{World, opening, outcomeIn, next, series, acceptedIn, treesOf, callsOfAll, noticesOfAll, callsSoFar, noticesSoFar}
@@ -89,6 +89,11 @@ pub record Kept (text : List ℕ) (s : Settings) (calls notices : List ℕ) (roo
   pub notices-so-far :
       noticesSoFar (series text (opening s calls notices) roots)
       ≡ noticesOfAll text s [] (treesOf text (acceptedIn text (opening s calls notices) roots))
+  -- the readers of both tapes reach their ends: the calls so far are the bytes of the commands read, and the record tape those of the records read
+  pub calls-read :
+      callBytes (readCalls (callsSoFar (series text (opening s calls notices) roots))) ≡ callsSoFar (series text (opening s calls notices) roots)
+  pub records-read :
+      entryBytes outside (recordsSoFar (series text (opening s calls notices) roots)) ≡ recordsTape (series text (opening s calls notices) roots)
   -- the records are written wherever there is space for them
   pub written-records :
       (target : List ℕ)

@@ -3,9 +3,9 @@ use Prim.Native.Nat.{ℕ, _+_, _*_, _-_}
 use Prim.Native.String.{String}
 use mathlib.Core.Path.{_≡_, refl}
 use mathlib.Core.Bool.{cond}
-use mathlib.Core.List.{List, [], _∷_, map}
+use mathlib.Core.List.{List, [], _∷_, _++_, map}
 use lib.ListN.{length}
-use lib.Dec.{leb}
+use lib.Dec.{eqb, leb}
 use Rattle.text.specs.declared.spans.Span.{Span}
 use Rattle.text.specs.Bytes.{ascii, same, findFrom}
 use Rattle.text.specs.Utf8.{within, width, after, illFrom, firstIll}
@@ -27,11 +27,11 @@ use Rattle.definitions.specs.Pragmas.{onto, split, allParts, isIdentifie
 use Rattle.definitions.specs.Opening.{optionBy, optionsFrom, openingBy, readOpening, optionsOf, modeOf, formUnder, settingsOf, shifted, overAsciiIn, ifClassic, pragmasChecked, judgeOpening}
 use Rattle.definitions.specs.Reading.{ampersand, lettered, opened, membersBy, nameBy, propertiesBy, attributesBy, valueBy, childrenBy, membersAt, nameAt, propertiesAt, elementAt, fragmentAt, attributesAt, valueAt, childrenAt, scopesBy, scopesAt, rootBy, whole, readRoot}
 use Rattle.definitions.specs.JsxText.{charsFrom, linesOf, trimFront, beforeTrimmed, trimBack, laterLines, endOf, spansOf, keptLines, jsxText}
-use Rattle.definitions.specs.Calls.{bareCode, byteCode, expressionCode, spanCode, bytesOf, callBytes, noticeBytesOf, noticeBytes}
+use Rattle.definitions.specs.Calls.{Command, bare, byte, over, span, binding, source, lookup, readBy, readFirst, readFrom, readCalls, bareCode, byteCode, expressionCode, spanCode, bytesOf, callBytes, noticeBytesOf, noticeBytes}
 use Rattle.definitions.specs.Store.{sameImport, numberIn, bound, boundBy, boundAfter, numbered, numberedAll, canImport, canRequire, canBind}
 use Rattle.definitions.specs.Lowering.{joined, members, lowerName, imported, hasValue, isProto, hasProto, carried, isFound, attributeName, keyNotice, keyAfterSpread, someLine, survivors, hasSpread, childrenProperty, lowerText, sourceOutput, selfOutput, staticChildren, noKey, isClassic, automaticName, automaticCall, objectOf, classicCall, isLast, loneSpreadOr, lowerNode, lowerAttributes, lowerKey, lowerValue, lowerChildren, insideConstructor, lowerRoot, commandsOf, noticesOf}
 use Rattle.definitions.specs.Records.{without, isAmong, withGroup, groupedBy, groupsFrom, entryIn, entriesIn, groupTape, placeIn, fileNameEntry, fileNameTape, recordTape}
-use Rattle.definitions.specs.States.{inOrder, borneOut, rootNumber, numberedFrom, unrepeated, allBindable, sound}
+use Rattle.definitions.specs.States.{inOrder, borneOut, rootNumber, formBorneOut, numberedFrom, unrepeated, allBindable, sound}
 use Rattle.definitions.specs.Entries.{loweredAfter, fitted, judgeRoot, recordsFrom, moved, judgeRecords}
 use Rattle.definitions.specs.Program.{Printed, printed, refusedWith, printRecords, printRoot, printOpening, jsxtape}
 
@@ -53,16 +53,17 @@ hex s = hexOf (ascii s)
 abbrev pub at : ℕ → ℕ → Span
 at s n = record { start = s; len = n }
 
--- what is asked: the lines of a JSX text, the pragma pair that a comment sets with jsx_plugin on, the form of a pragma, what a job prints
+-- what is asked: the string that a JSX text becomes, both pragma pairs that a comment sets with jsx_plugin on, the form of a pragma, what a job prints
 pub data Question : Type 0 where
-  linesIn : List ℕ → Question
-  pairIn : List ℕ → Question
+  stringIn : List ℕ → Question
+  pairsIn : List ℕ → Question
   formIs : List ℕ → Question
   prints : List ℕ → List ℕ → List ℕ → Question
 
+-- a string as it is written and what it means; the JSX pair and the TypeScript pair, in each the pragma and the fragment pragma
 pub data Reply : Type 0 where
-  spans : List Span → Reply
-  pair : Optional → Optional → Reply
+  string : List ℕ → List ℕ → Reply
+  pairs : Optional → Optional → Optional → Optional → Reply
   form : Form → Reply
   output : Printed → Reply
   turnedAway : Reply
@@ -71,13 +72,30 @@ pub data Reply : Type 0 where
 abbrev pub commented : List ℕ → List ℕ
 commented c = 0x61 ∷ 0x01 ∷ 0x00 ∷ 0x60 ∷ 0 ∷ 0 ∷ length c ∷ 0 ∷ []
 
-unfoldable pub pairOf : Judged Settings → Reply
-pairOf (accepted s) = pair (s .options .pragma) (s .options .«pragma_frag»)
-pairOf (refused r) = turnedAway
+unfoldable pub pairsOf : Judged Settings → Reply
+pairsOf (accepted s) = pairs (s .options .pragma) (s .options .«pragma_frag») (s .options .«ts_pragma») (s .options .«ts_pragma_frag»)
+pairsOf (refused r) = turnedAway
+
+-- the bytes of a text child that is all of the text
+abbrev pub stringBytes : List ℕ → List ℕ
+stringBytes text = callBytes (numberedAll [] (commandsOf (lowerText (jsxText text (at 0 (length text))))))
+
+-- what a string's commands mean: "8B S, 8C space, 8E colon"
+unfoldable pub meaningOf : List ℕ → Command ℕ → List ℕ
+meaningOf text (bare c) = cond (eqb (bareCode c) 0x8c) (ascii " ") (cond (eqb (bareCode c) 0x8e) (ascii ":") [])
+meaningOf text (span c s) = cond (eqb (spanCode c) 0x8b) (partOf text s) []
+meaningOf text (byte c n) = []
+meaningOf text (over c e) = []
+meaningOf text (binding b) = []
+meaningOf text (source b p) = []
+
+unfoldable pub meaning : List ℕ → List (Command ℕ) → List ℕ
+meaning text [] = []
+meaning text (c ∷ cs) = meaningOf text c ++ meaning text cs
 
 unfoldable pub replyTo : Question → Reply
-replyTo (linesIn l) = spans (jsxText l (at 0 (length l)))
-replyTo (pairIn c) = pairOf (judgeOpening c (commented c))
+replyTo (stringIn text) = string (stringBytes text) (meaning text (readCalls (stringBytes text)))
+replyTo (pairsIn c) = pairsOf (judgeOpening c (commented c))
 replyTo (formIs l) = form (formOf l)
 replyTo (prints job text tape) = output (jsxtape job text tape)
 
@@ -97,15 +115,15 @@ q gives r = record { asked = q; expected = r }
 abbrev pub table : List Row
 table =
     -- "Text of 3 spaces: kept."
-    (linesIn (ascii "   ") gives spans (at 0 3 ∷ []))
+    (stringIn (ascii "   ") gives string (hex "8a 8b 00 00 03 00 8d") (ascii "   "))
     -- "LF: no child."
-    ∷ (linesIn (ascii "\n") gives spans [])
-    -- "\" a LF b \" with single spaces gives \" a b \"": " a" and "b ". Wrong port: trimming the first line's front
-    ∷ (linesIn (ascii " a \n b ") gives spans (at 0 2 ∷ at 5 2 ∷ []))
+    ∷ (stringIn (ascii "\n") gives string [] [])
+    -- "\" a LF b \" with single spaces gives \" a b \"": " a", a space, "b ". Wrong port: trimming the first line's front
+    ∷ (stringIn (ascii " a \n b ") gives string (hex "8a 8b 00 00 02 00 8c 8b 05 00 02 00 8d") (ascii " a b "))
     -- "comment `a@@jsx h`: pragma h"
-    ∷ (pairIn (ascii "a@@jsx h") gives pair (Present (at 7 1)) Absent)
+    ∷ (pairsIn (ascii "a@@jsx h") gives pairs (Present (at 7 1)) Absent (Present (at 7 1)) Absent)
     -- "`@jsx `, LF, `@jsxFrag f`: neither set"
-    ∷ (pairIn (ascii "@jsx \n@jsxFrag f") gives pair Absent Absent)
+    ∷ (pairsIn (ascii "@jsx \n@jsxFrag f") gives pairs Absent Absent Absent Absent)
     -- "`h.class` valid; `import` and `a..b` invalid; `this` valid"
     ∷ (formIs (ascii "h.class") gives form (record { root = root.Identifier; tail = 1 }))
     ∷ (formIs (ascii "import") gives form (record { root = root.Default; tail = 0 }))
@@ -213,7 +231,7 @@ abbrev pub Answered : List Row → Type 0
 Answered rows = map (λ r. replyTo (r .asked)) rows ≡ map (λ r. r .expected) rows
 
 computed : Answered table × Answered readings
-unfolding replyTo pairOf digit hexOf
+unfolding replyTo pairsOf meaningOf meaning digit hexOf
     same findFrom within width after illFrom firstIll charOf isWhiteSpace isLineTerminator partOf cutsAt boundsOf
     faultNumber numberOf figureOf flagsCommand optionCommand
     heritageCommand scopeCommand nameCommand memberCommand attributeCommand propertyCommand valueCommand childCommand
@@ -224,11 +242,11 @@ unfolding replyTo pairOf digit hexOf
     optionBy optionsFrom openingBy readOpening optionsOf modeOf formUnder settingsOf shifted overAsciiIn ifClassic pragmasChecked judgeOpening
     ampersand lettered opened membersBy nameBy propertiesBy attributesBy valueBy childrenBy membersAt nameAt propertiesAt elementAt fragmentAt attributesAt valueAt childrenAt scopesBy scopesAt rootBy whole readRoot
     charsFrom linesOf trimFront beforeTrimmed trimBack laterLines endOf spansOf keptLines jsxText
-    bareCode byteCode expressionCode spanCode bytesOf callBytes noticeBytesOf noticeBytes
+    bareCode byteCode expressionCode spanCode bytesOf callBytes noticeBytesOf noticeBytes lookup readBy readFirst readFrom readCalls
     sameImport numberIn bound boundBy boundAfter numbered numberedAll canImport canRequire canBind
     joined members lowerName imported hasValue isProto hasProto carried isFound attributeName keyNotice keyAfterSpread someLine survivors hasSpread childrenProperty lowerText sourceOutput selfOutput staticChildren noKey isClassic automaticName automaticCall objectOf classicCall isLast loneSpreadOr lowerNode lowerAttributes lowerKey lowerValue lowerChildren insideConstructor lowerRoot commandsOf noticesOf
     without isAmong withGroup groupedBy groupsFrom entryIn entriesIn groupTape placeIn fileNameEntry fileNameTape recordTape
-    inOrder borneOut rootNumber numberedFrom unrepeated allBindable sound
+    inOrder borneOut rootNumber formBorneOut numberedFrom unrepeated allBindable sound
     loweredAfter fitted judgeRoot recordsFrom moved judgeRecords
     printRecords printRoot printOpening jsxtape
 computed = (refl, refl)

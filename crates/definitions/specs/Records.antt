@@ -115,3 +115,22 @@ entriesFrom lost (b ∷ t) = []
 -- a record stands in a group, so the source before the first one is never seen
 abbrev pub readRecords : List ℕ → List Entry
 readRecords t = entriesFrom (command 0) t
+
+-- ---- and back
+
+-- the group that a record stands behind: none at the tape's front
+pub data Group : Type 0 where
+  outside : Group
+  within : ℕ → Group
+
+-- "B0 source u8 opens a group": none where the record before has the same source
+unfoldable pub groupHead : Group → ℕ → List ℕ
+groupHead outside s = 0xb0 ∷ s ∷ []
+groupHead (within t) s = cond (eqb t s) [] (0xb0 ∷ s ∷ [])
+
+-- the bytes of records as they were read
+unfoldable pub entryBytes : Group → List Entry → List ℕ
+entryBytes g [] = []
+entryBytes g (named s n b ∷ es) = groupHead g s ++ 0xb1 ∷ n ∷ b ∷ entryBytes (within s) es
+entryBytes g (required s b ∷ es) = groupHead g s ++ 0xb2 ∷ b ∷ entryBytes (within s) es
+entryBytes g (file b p ∷ es) = 0xb3 ∷ b ∷ p ∷ entryBytes g es

@@ -4,6 +4,8 @@ use mathlib.Core.Bool.{Bool, true, false, cond, not, _&&_, _||_}
 use mathlib.Core.List.{List, [], _∷_, _++_, map}
 use lib.ListN.{length, take}
 use lib.Dec.{eqb, ltb}
+use Rattle.text.specs.declared.bytes.Found.{Found}
+use Rattle.text.specs.declared.bytes.Found.the-variants as found
 use Rattle.text.specs.declared.spans.Span.{Span}
 use Rattle.text.specs.declared.spans.Bounds.{Bounds}
 use Rattle.text.specs.declared.spans.Bounds.the-variants as bounds
@@ -18,7 +20,7 @@ use Rattle.definitions.specs.declared.options.Settings.{Settings}
 use Rattle.definitions.specs.declared.records.Import.{Import}
 use Rattle.definitions.specs.declared.records.Record.{Record}
 use Rattle.definitions.specs.declared.state.State.{State}
-use Rattle.definitions.specs.Opening.{formUnder}
+use Rattle.definitions.specs.Opening.{formUnder, overAsciiIn, ifClassic}
 use Rattle.definitions.specs.Store.{isBound, canBind}
 
 -- ---- the settings
@@ -51,11 +53,16 @@ rootNumber root.Identifier = 3
 abbrev pub sameForm : Form → Form → Bool
 sameForm f g = eqb (rootNumber (f .root)) (rootNumber (g .root)) && eqb (f .tail) (g .tail)
 
--- the pragma forms are those that the text gives under these settings
+-- a form is borne out where it is the one that the text gives. In classic settings a pragma with a byte over 7F, whose opening is refused (5), gives none
+unfoldable pub formBorneOut : Found → Form → Form → Bool
+formBorneOut (found.At p) f g = false
+formBorneOut found.Nothing f g = sameForm f g
+
+-- both pragmas, under these settings
 abbrev pub formsBorneOut : List ℕ → Settings → Bool
 formsBorneOut text s =
-    sameForm (s .pragma) (formUnder (s .mode) text (s .options .pragma))
-    && sameForm (s .«pragma_frag») (formUnder (s .mode) text (s .options .«pragma_frag»))
+    formBorneOut (ifClassic (s .mode) (overAsciiIn text (s .options .pragma))) (s .pragma) (formUnder (s .mode) text (s .options .pragma))
+    && formBorneOut (ifClassic (s .mode) (overAsciiIn text (s .options .«pragma_frag»))) (s .«pragma_frag») (formUnder (s .mode) text (s .options .«pragma_frag»))
 
 -- ---- the records
 

@@ -1,23 +1,25 @@
--- Digits of a number as the code writes them, and how long the two kinds of lines are.
+-- Digits of a number as the code writes them, and lines in a lent buffer.
 --     none-left, one-digit, more-digits     the digits by the code's tests
 --     refused-wrote, refusal-wrote          a refusal's line, part by part
---     line-long, line-whole, refusal-count  how long the lines are
+--     line-unfit, line-fits, line-front     a line, where the buffer has room for it and where not
 -- Assumes nothing.
-use mathlib.Core.Path.{_≡_, refl, subst}
-use mathlib.Core.Bool.{Bool, true, false, cond}
-use mathlib.Core.List.{List, [], _∷_, _++_}
-use Prim.Native.Nat.{ℕ, zero, suc, _+_, _*_, _-_, _/_, _%_, _≤_, _<_, _^_}
+use mathlib.Core.Path.{_≡_, subst}
+use mathlib.Core.Bool.{Bool, false}
+use mathlib.Core.List.{List, [], _∷_}
+use Prim.Native.Nat.{ℕ, zero, suc, _+_, _-_, _/_, _%_, _≤_, _<_, _^_}
 use native.Mathlib.Omega.{arith}
+use native.Mathlib.Nat.{sub-zero}
 use native.Mathlib.Numerals.{sub-one}
-use lib.ListN.{length, length-append}
-use lib.Dec.{ltb}
+use lib.ListN.{length, take, drop}
+use lib.Seq.{take-at}
 use borrow.Author.Tests.{lt-ltb, le-ltb}
 use Rattle.text.specs.Bytes.{ascii}
 use Rattle.tape.specs.declared.refusal.Refusal.{Refusal}
 use Rattle.tape.specs.Refusals.{numberOf, figureOf}
 use Rattle.tape.specs.Targets.{Wrote}
-use Rattle.tape.proofs.Targets.{wrote-nothing, wrote-then}
-use Rattle.files.specs.Refusals.{decimalIn, decimalOf, refusalLine, printedLength}
+use Rattle.tape.proofs.Targets.{wrote-nothing, wrote-then, wrote-room}
+use Rattle.files.specs.Refusals.{decimalIn, refusalLine}
+use Rattle.files.specs.Lines.{Prints}
 
 -- ---- digits
 
@@ -36,15 +38,6 @@ unfolding decimalIn
 more-digits zero n h k short v w = absurd (omega arith)
 more-digits (suc d) n {o} {o₁} {at = at} {next = next} h k short v w = rw (le-ltb n 10 k) (wrote-then short (subst (λ (k : ℕ). Wrote o o₁ at next (decimalIn k (n / 10))) (sub-one (suc d)) v) w)
 
-few-digits : (d n : ℕ) → length (decimalIn d n) ≤ d
-unfolding decimalIn
-few-digits zero n = omega arith
-few-digits (suc d) n = go (ltb n 10) (few-digits d (n / 10))
-  where
-    go : (b : Bool) → length (decimalIn d (n / 10)) ≤ d → length (cond b ((0x30 + n) ∷ []) (decimalIn d (n / 10) ++ ((0x30 + n % 10) ∷ []))) ≤ suc d
-    go true h = omega arith
-    go false h = omega (arith, length-append (decimalIn d (n / 10)) ((0x30 + n % 10) ∷ []))
-
 -- ---- lines
 
 pub refused-wrote : {o o₁ o₂ o₃ o₄ : List ℕ} {a b c d : ℕ} → length o ≤ 2 ^ 63 → Wrote o o₁ 0 a (ascii "re") → Wrote o₁ o₂ a b (ascii "fu") → Wrote o₂ o₃ b c (ascii "se")
@@ -56,29 +49,17 @@ pub refusal-wrote : (x : Refusal) (n f : ℕ) {o o₁ o₂ o₃ o₄ o₅ : List
     → Wrote o₄ o₅ d e (0x0a ∷ []) → Wrote o o₅ 0 e (refusalLine x)
 refusal-wrote x n f i j short p q r s t = rw (← i, ← j) (wrote-then short (wrote-then short (wrote-then short (wrote-then short p q) r) s) t)
 
-refusal-room : (r : Refusal) → length (refusalLine r) ≤ 64
-refusal-room r =
-    let n = decimalOf (numberOf r) in
-    let f = decimalOf (figureOf r) in
-    let p = ascii "refused " ++ n in
-    let q = p ++ ascii " " in
-    let a : length p ≡ 8 + length n = length-append (ascii "refused ") n in
-    let b : length q ≡ length p + 1 = length-append p (ascii " ") in
-    let c : length (q ++ f) ≡ length q + length f = length-append q f in
-    let d : length (refusalLine r) ≡ length (q ++ f) + 1 = length-append (q ++ f) (0x0a ∷ []) in
-    omega (arith, few-digits 20 (numberOf r), few-digits 20 (figureOf r), a, b, c, d)
-
--- a line that was written from the start of the buffer, and counted: it is printed whole, or not at all
+-- a line that was written from the start of the buffer: its front is the line, where the buffer has room for it
 module _ (line : List ℕ) {o o₁ : List ℕ} {r : ℕ} (w : Wrote o o₁ 0 r line) where
-  pub line-long : 196800 < r → 0 ≡ printedLength (length line)
-  unfolding printedLength
-  line-long h = rw (lt-ltb 196800 (length line) (omega (arith, w .next))) refl
+  pub line-unfit : {b : Bool} → b ≡ false → Prints line o o₁ b
+  line-unfit e = record { holds = w .holds; unfit = λ h. e }
 
-  pub line-whole : r ≤ 196800 → r ≡ printedLength (length line)
-  unfolding printedLength
-  line-whole h =
-      let e : r ≡ length line = omega (arith, w .next) in
-      rw (le-ltb 196800 (length line) (omega (arith, e))) e
+  module _ (short : length o < 2 ^ 63) (h : r ≤ length o) where
+    pub line-fits : {b : Bool} → Prints line o o₁ b
+    line-fits = record { holds = w .holds; unfit = λ k. absurd (omega (arith, w .next)) }
 
-pub refusal-count : (x : Refusal) {o o₁ : List ℕ} {r : ℕ} → Wrote o o₁ 0 r (refusalLine x) → (r ≡ length (refusalLine x)) × (r ≤ 64)
-refusal-count x w = (omega (arith, w .next, refusal-room x), omega (arith, w .next, refusal-room x))
+    pub line-front : take (r - 0) (drop 0 o₁) ≡ line
+    line-front =
+        let x = wrote-room short h w in
+        let e : length line ≡ r = omega (arith, x .0) in
+        rw (sub-zero r, x .1) (take-at line (drop r o) r e)

@@ -18,7 +18,3 @@ decimalOf n = decimalIn 20 n
 
 abbrev pub refusalLine : Refusal → List ℕ
 refusalLine r = ascii "refused " ++ decimalOf (numberOf r) ++ ascii " " ++ decimalOf (figureOf r) ++ (0x0a ∷ [])
-
--- how much of a line of n bytes is printed: all, if it is not longer than the program's buffer
-unfoldable pub printedLength : ℕ → ℕ
-printedLength n = cond (ltb 196800 n) 0 n

@@ -1,12 +1,14 @@
 // Files read whole, and lines printed: the input and output that the programs share.
 ghost use mathlib.Core.Path.{_≡_};
+ghost use mathlib.Core.Bool.{false};
 ghost use Prim.Native.Nat.{_≤_, _^_};
-ghost use lib.ListN.{length};
 ghost use Rattle.io.specs.Counts.{Counts};
 ghost use Rattle.printing.specs.Lines.{lineOf};
 ghost use Rattle.text.specs.Bytes.{ascii};
 ghost use Rattle.tape.specs.Targets.{Wrote};
-ghost use Rattle.files.specs.Refusals.{decimalIn, refusalLine, printedLength};
+ghost use Rattle.files.specs.Refusals.{decimalIn, refusalLine};
+ghost use Rattle.files.specs.Lines.{Prints};
+use libc::STDERR_FILENO;
 use libc::STDOUT_FILENO;
 use printing::put_line;
 use tape::refusal::Refusal;
@@ -28,17 +30,45 @@ pub fn read_file(name: &[u8], buf: &mut [u8]) -> usize
     n
 }
 
-// Prints a word and its bytes, and tells how long the line is. One of over 196,800 bytes, which no target of the programs gives, is not printed.
-pub fn print_line(word: &[u8], bytes: &[u8]) -> usize
-    ensures { λ r. ⌜ r ≡ printedLength (length (lineOf (now (word .entry)) (now (bytes .entry)))) ⌝ }
+// Tells on standard error that standard output takes nothing.
+fn cannot_write() -> bool
+    ensures { λ r. ⌜ r ≡ false ⌝ }
 {
-    let mut line = [0u8; 196800];
-    let n = put_line(word, bytes, &mut line);
-    if line.len() < n {
-        return 0;
+    io::write_all(STDERR_FILENO, b"cannot write: standard output\n");
+    false
+}
+
+// Hands the bytes to the system, and tells whether it took them all; where not, standard error has been told. Neither that a call is made nor what it
+// writes can be stated, and `io::write_all` says nothing of its answer. So the functions that come here require what the bytes are.
+fn write_out(bytes: &[u8]) -> bool {
+    if io::write_all(STDOUT_FILENO, bytes) {
+        return true;
     }
-    io::write_all(STDOUT_FILENO, &line[0..n]);
-    n
+    cannot_write()
+}
+
+fn write_line(line: &[u8], word: &[u8], bytes: &[u8]) -> bool
+    requires { ⌜ now line ≡ lineOf (now word) (now bytes) ⌝ }
+{
+    write_out(line)
+}
+
+fn write_refusal(line: &[u8], refusal: Refusal) -> bool
+    requires { ⌜ now line ≡ refusalLine refusal ⌝ }
+{
+    write_out(line)
+}
+
+// Prints a word and its bytes by way of the lent line, and tells whether all was taken; where not, standard error has been told. A line that is longer
+// than the lent one is not printed.
+pub fn print_line(word: &[u8], bytes: &[u8], line: &mut [u8]) -> bool
+    ensures { λ r. ⌜ Prints (lineOf (now (word .entry)) (now (bytes .entry))) (now (line .entry)) (now (line .exit)) r ⌝ }
+{
+    let n = put_line(word, bytes, line);
+    if line.len() < n {
+        return cannot_write();
+    }
+    write_line(&line[0..n], word, bytes)
 }
 
 // The last digits of a number, in decimal, with no zero in front.
@@ -75,12 +105,13 @@ fn put_refusal(refusal: Refusal, out: &mut [u8]) -> usize
     put(out, figured, b'\n')
 }
 
-// Prints a refusal's number and figure, and tells how long the line is.
-pub fn print_refusal(refusal: Refusal) -> usize
-    ensures { λ r. ⌜ r ≡ length (refusalLine refusal) ⌝ }
+// Prints a refusal's number and figure, in the same way.
+pub fn print_refusal(refusal: Refusal, line: &mut [u8]) -> bool
+    ensures { λ r. ⌜ Prints (refusalLine refusal) (now (line .entry)) (now (line .exit)) r ⌝ }
 {
-    let mut line = [0u8; 64];
-    let n = put_refusal(refusal, &mut line);
-    io::write_all(STDOUT_FILENO, &line[0..n]);
-    n
+    let n = put_refusal(refusal, line);
+    if line.len() < n {
+        return cannot_write();
+    }
+    write_refusal(&line[0..n], refusal)
 }

@@ -1,21 +1,27 @@
 -- A whole job (specs, `jobOver`) by what its three parts come to.
 --     opening-refused, root-refused, job-done     how far it came
---     job-is                                      the parts of that
+--     job-is                                      the parts of that, and demand 3 of the roots that it took
 -- Assumes nothing.
-use mathlib.Core.Path.{_≡_, sym, ap, _∙_}
+use mathlib.Core.Path.{_≡_, refl, sym, ap, _∙_}
 use mathlib.Core.List.{List}
 use Prim.Native.Nat.{ℕ}
-use lib.ListN.{length}
+use lib.ListN.{length, take}
 use Rattle.tape.specs.declared.refusal.Refusal.{Refusal}
 use Rattle.tape.specs.Refusals.{numberOf, figureOf}
 use Rattle.definitions.specs.declared.state.State.{State}
 use Rattle.definitions.specs.declared.state.Answer.{Answer}
 use Rattle.definitions.specs.declared.state.Answer.the-variants.{Accepted, Refused}
 use Rattle.definitions.specs.declared.state.Stepped.{Stepped}
-use Rattle.definitions.specs.Entries.{opened, judgeRecords, recordsAnswer, recordsTarget}
-use Rattle.definitions.specs.Series.{World}
-use Rattle.lowering.specs.RootLists.{Run, run}
+use Rattle.definitions.specs.declared.options.Settings.{Settings}
+use Rattle.definitions.specs.Judging.{Judged, accepted}
+use Rattle.definitions.specs.Opening.{judgeOpening}
+use Rattle.definitions.specs.Entries.{openedBy, opened, judgeRecords, recordsAnswer, recordsTarget}
+use Rattle.definitions.specs.Series.{World, opening, series}
+use Rattle.definitions.proofs.Demand3.{demand3}
+use Rattle.lowering.specs.RootLists.{rootsIn, Run, run}
+use Rattle.lowering.proofs.Listed.{run-leaves}
 use Rattle.jsxlib.specs.Entries.{numberBy, figureBy, recordsNumber, recordsFigure, JobRun, jobRecords, jobRoots, jobBy, jobOver}
+use Rattle.jsxlib.specs.Hosts.{Served}
 
 abbrev pub begun : State → List ℕ → List ℕ → World
 begun s calls notices = record { state = s; calls = calls; notices = notices }
@@ -68,36 +74,61 @@ module _ (text job roots calls notices records : List ℕ) (t : Stepped) (told :
         runs ∙ ap (λ (b : Answer). jobRoots text b k w records) h
         ∙ λ ι. record { stage = 2; number = sym n ι; figure = sym f ι; taken = k; world = w; records = sym r ι }
 
-pub job-is : {j o : JobRun} → j ≡ o
-    → (o .number ≡ j .number)
-    × ((o .stage ≡ j .stage)
-    × ((o .taken ≡ j .taken)
-    × ((o .world .state .calls ≡ j .world .state .calls)
-    × ((o .world .state .notices ≡ j .world .state .notices)
-    × ((o .figure ≡ j .figure)
-    × ((o .world .calls ≡ j .world .calls)
-    × ((o .world .notices ≡ j .world .notices)
-    × (o .records ≡ j .records))))))))
-job-is e =
-    let r = sym e in (
-      ap (λ (j : JobRun). j .number) r,
-      (
-        ap (λ (j : JobRun). j .stage) r,
+-- the world that a job leaves behind an accepted opening is the series of the roots that it took
+roots-leave : (text : List ℕ) (a : Answer) (k : ℕ) (w : World) (records : List ℕ) → (jobRoots text a k w records .world ≡ w) × (jobRoots text a k w records .taken ≡ k)
+unfolding jobRoots jobRecords
+roots-leave text Accepted k w records = (refl, refl)
+roots-leave text (Refused x) k w records = (refl, refl)
+
+module _ (text job roots calls notices records : List ℕ) where
+  job-served : (s : Settings) → judgeOpening text job ≡ accepted s
+      → Served text s calls notices (take (jobOver text job roots calls notices records .taken) (rootsIn roots)) (jobOver text job roots calls notices records .world)
+  unfolding opened openedBy jobBy
+  job-served s h =
+      let w = opening s calls notices in
+      let r = run text w roots in
+      let l = roots-leave text (r .answer) (r .taken) (r .world) records in
+      let o : jobOver text job roots calls notices records ≡ jobRoots text (r .answer) (r .taken) (r .world) records =
+      ap (λ (j : Judged Settings). jobBy text (openedBy j .answer) (begun (openedBy j .state) calls notices) roots records) h in
+      let k = ap (λ (j : JobRun). j .taken) o ∙ l .1 in
+      record {
+        is-series = ap (λ (j : JobRun). j .world) o ∙ l .0 ∙ run-leaves text w roots ∙ ap (λ (n : ℕ). series text w (take n (rootsIn roots))) (sym k);
+        kept = demand3 text job s h calls notices (take (jobOver text job roots calls notices records .taken) (rootsIn roots));
+      }
+
+  pub job-is : {o : JobRun} → jobOver text job roots calls notices records ≡ o
+      → (o .number ≡ jobOver text job roots calls notices records .number)
+      × ((o .stage ≡ jobOver text job roots calls notices records .stage)
+      × ((o .taken ≡ jobOver text job roots calls notices records .taken)
+      × ((o .world .state .calls ≡ jobOver text job roots calls notices records .world .state .calls)
+      × ((o .world .state .notices ≡ jobOver text job roots calls notices records .world .state .notices)
+      × ((o .figure ≡ jobOver text job roots calls notices records .figure)
+      × ((o .world .calls ≡ jobOver text job roots calls notices records .world .calls)
+      × ((o .world .notices ≡ jobOver text job roots calls notices records .world .notices)
+      × ((o .records ≡ jobOver text job roots calls notices records .records)
+      × ((s : Settings) → judgeOpening text job ≡ accepted s
+      → Served text s calls notices (take (jobOver text job roots calls notices records .taken) (rootsIn roots))
+      (jobOver text job roots calls notices records .world))))))))))
+  job-is e =
+      let r = sym e in (
+        ap (λ (j : JobRun). j .number) r,
         (
-          ap (λ (j : JobRun). j .taken) r,
+          ap (λ (j : JobRun). j .stage) r,
           (
-            ap (λ (j : JobRun). j .world .state .calls) r,
+            ap (λ (j : JobRun). j .taken) r,
             (
-              ap (λ (j : JobRun). j .world .state .notices) r,
+              ap (λ (j : JobRun). j .world .state .calls) r,
               (
-                ap (λ (j : JobRun). j .figure) r,
+                ap (λ (j : JobRun). j .world .state .notices) r,
                 (
-                  ap (λ (j : JobRun). j .world .calls) r,
-                  (ap (λ (j : JobRun). j .world .notices) r, ap (λ (j : JobRun). j .records) r),
+                  ap (λ (j : JobRun). j .figure) r,
+                  (
+                    ap (λ (j : JobRun). j .world .calls) r,
+                    (ap (λ (j : JobRun). j .world .notices) r, (ap (λ (j : JobRun). j .records) r, job-served)),
+                  ),
                 ),
               ),
             ),
           ),
         ),
-      ),
-    )
+      )

@@ -14,9 +14,11 @@ use Rattle.definitions.specs.declared.state.State.{State}
 use Rattle.definitions.specs.Judging.{Judged, refused, refuse, refuseAt, tooLong}
 use Rattle.definitions.specs.States.{sound, overfilled}
 use Rattle.definitions.specs.Entries.{Lowered, judgeRoot, outcomeBy, rootOutcome, judgeRecords, recordsAnswer}
+use Rattle.definitions.specs.Series.{World}
+use Rattle.lowering.specs.RootLists.{Run, judgeList, judgedRun, run}
 use Rattle.packing.specs.Packed.{Found as Unpack, none, noState, unpacked, unpackedAnswer}
 use Rattle.jsxlib.specs.Entries.{stateFrom}
-use Rattle.jsxlib.specs.Unread.{RootUnread, RecordsUnread}
+use Rattle.jsxlib.specs.Unread.{RootUnread, ListUnread, RecordsUnread}
 
 module _ {A : Type 0} where
   pass : (b : Bool) (r : Refusal) (j : Judged A) → b ≡ false → refuse b r j ≡ j
@@ -50,6 +52,14 @@ unfolding rootOutcome outcomeBy
 root-unread text state tape calls notices e h g =
     ap (λ (j : Judged Lowered). outcomeBy (stateFrom state) calls notices j .stepped .answer)
     (root-judged text (stateFrom state) tape (length calls) (length notices) h g (unsound-from text state e))
+
+pub list-unread : ListUnread
+unfolding run judgedRun judgeList
+list-unread text state roots calls notices e h g =
+    let w : World = record { state = stateFrom state; calls = calls; notices = notices } in
+    ap (λ (j : Judged Run). judgedRun w j .answer)
+    (pass _ _ _ h ∙ fair _ _ _ g
+    ∙ stop _ _ _ (ap (λ (b : Bool). not b || overfilled (stateFrom state) (length calls) (length notices)) (unsound-from text state e)))
 
 pub records-unread : RecordsUnread
 unfolding judgeRecords recordsAnswer

@@ -18,6 +18,7 @@ use Rattle.definitions.specs.Entries.{Outcome, opened, rootOutcome, judgeRecord
 use Rattle.definitions.specs.Series.{World}
 use Rattle.lowering.specs.RootLists.{Run, run}
 use Rattle.packing.specs.Packed.{packedTarget, unpacked, unpackedAnswer}
+use Rattle.resolved.specs.Resolved.{judgeSource, judgeSettings}
 
 -- the state that bytes are; bytes that are no state's stand for one that every entry refuses as forged
 abbrev pub stateFrom : List ℕ → State
@@ -73,6 +74,14 @@ recordsNumber (written.Refused r) = numberOf r
 unfoldable pub recordsFigure : Written → ℕ
 recordsFigure (written.Accepted n) = n
 recordsFigure (written.Refused r) = figureOf r
+
+-- ---- the settings after the comments, and the text of a source
+
+abbrev pub settingsOver : List ℕ → List ℕ → ℕ → Judged (List ℕ)
+settingsOver text state room = judgeSettings text (stateFrom state) room
+
+abbrev pub sourceOver : List ℕ → List ℕ → ℕ → ℕ → Judged (List ℕ)
+sourceOver text state n room = judgeSource text (stateFrom state) n room
 
 -- ---- a whole job
 

@@ -11,7 +11,7 @@ use Rattle.definitions.specs.declared.state.Written.the-variants as written
 use Rattle.definitions.specs.Judging.{tooLong}
 use Rattle.definitions.specs.Entries.{recordsAnswer}
 use Rattle.packing.specs.Packed.{unpacked, none}
-use Rattle.jsxlib.specs.Entries.{rootOver, recordsOver}
+use Rattle.jsxlib.specs.Entries.{rootOver, runOver, recordsOver}
 
 abbrev pub RootUnread : Type 0
 RootUnread =
@@ -20,6 +20,14 @@ RootUnread =
     → (tooLong text || tooLong tape) ≡ false
     → firstIll text ≡ Nothing
     → rootOver text state tape calls notices .stepped .answer ≡ answer.Refused refusal.Forged
+
+abbrev pub ListUnread : Type 0
+ListUnread =
+    (text state roots calls notices : List ℕ)
+    → unpacked state ≡ none
+    → tooLong text ≡ false
+    → firstIll text ≡ Nothing
+    → runOver text state roots calls notices .answer ≡ answer.Refused refusal.Forged
 
 abbrev pub RecordsUnread : Type 0
 RecordsUnread =

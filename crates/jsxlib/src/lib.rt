@@ -3,17 +3,17 @@
 // targets as they are.
 ghost use mathlib.Core.Path.{_≡_};
 ghost use mathlib.Core.Bool.{cond};
-ghost use mathlib.Core.List.{List};
-ghost use Prim.Native.Nat.{ℕ, _≤_};
-ghost use lib.ListN.{length};
+ghost use Prim.Native.Nat.{_≤_};
+ghost use lib.ListN.{length, take};
 ghost use Rattle.definitions.specs.declared.options.Settings.{Settings};
-ghost use Rattle.definitions.specs.declared.records.Import.{Import};
-ghost use Rattle.definitions.specs.Judging.{done};
-ghost use Rattle.definitions.specs.Tree.{Root};
-ghost use Rattle.definitions.specs.Reading.{readRoot};
-ghost use Rattle.definitions.specs.Entries.{opened, loweredAfter, judgeRecords, recordsAnswer, recordsTarget};
+ghost use Rattle.definitions.specs.Judging.{accepted};
+ghost use Rattle.definitions.specs.Opening.{judgeOpening};
+ghost use Rattle.definitions.specs.Entries.{opened, judgeRecords, recordsAnswer, recordsTarget};
+ghost use Rattle.lowering.specs.RootLists.{rootsIn};
 ghost use Rattle.packing.specs.Packed.{unpacked, unpackedAnswer};
-ghost use Rattle.jsxlib.specs.Entries.{stateFrom, numberBy, figureBy, stateAfter, answerIn, openAnswer, rootOver, runOver, keptState, recordsOver, recordsNumber, recordsFigure, jobOver};
+ghost use Rattle.room.specs.Room.{callRoom, HoldsCalls};
+ghost use Rattle.jsxlib.specs.Entries.{stateFrom, numberBy, figureBy, stateAfter, answerIn, openAnswer, rootOver, runOver, keptState, recordsOver, recordsNumber, recordsFigure, settingsOver, sourceOver, jobOver};
+ghost use Rattle.jsxlib.specs.Hosts.{Served, Hosted};
 use definitions::state::Answer;
 use definitions::state::State;
 use definitions::state::Written;
@@ -21,6 +21,8 @@ use lowering::lower_root;
 use lowering::series::lower_list;
 use packing::reading::unpack;
 use packing::writing::pack;
+use resolved::write_settings;
+use resolved::write_source;
 use room::call_room;
 use settings::opening::open_job;
 use store::module_imports::write_records;
@@ -83,12 +85,30 @@ fn records_figure(answer: Written) -> usize
     }
 }
 
-// Opens a job over a text: the state's 102 bytes at the front of `state`. Where there is no room for them, 10 with 102.
+// The number of an answer, and its figure where the caller can read it.
+fn tell(answer: Written, figure: &mut usize) -> u8
+    ensures { λ r. ⌜ r ≡ recordsNumber answer ⌝ }
+    ensures { λ _. ⌜ now (figure .exit) ≡ recordsFigure answer ⌝ }
+{
+    *figure = records_figure(answer);
+    records_number(answer)
+}
+
+fn state_from(bytes: &[u8]) -> State
+    ensures { λ r. ⌜ r ≡ stateFrom (now (bytes .entry)) ⌝ }
+{
+    let unpacked = unpack(bytes);
+    unpacked.state
+}
+
+// Opens a job over a text: the state's 102 bytes at the front of `state`. Where there is no room for them, 10 with 102. Whatever roots and lists of roots are
+// handed over behind it, demand 3 holds of what these bytes and the targets then are.
 #[no_mangle]
 pub extern "C" fn jsx_open(text: &[u8], job: &[u8], state: &mut [u8], figure: &mut usize) -> u8
     ensures { λ r. ⌜ r ≡ numberBy (openAnswer (now (text .entry)) (now (job .entry)) (length (now (state .entry)))) ⌝ }
     ensures { λ _. ⌜ now (figure .exit) ≡ figureBy 102 (openAnswer (now (text .entry)) (now (job .entry)) (length (now (state .entry)))) ⌝ }
     ensures { λ _. ⌜ now (state .exit) ≡ stateAfter (openAnswer (now (text .entry)) (now (job .entry)) (length (now (state .entry)))) (opened (now (text .entry)) (now (job .entry)) .state) (now (state .entry)) ⌝ }
+    ensures { λ _. ⌜ ((s : Settings) → judgeOpening (now (text .entry)) (now (job .entry)) ≡ accepted s → 102 ≤ length (now (state .entry)) → Hosted (now (text .entry)) s (take 102 (now (state .exit)))) ⌝ }
 {
     let stepped = open_job(text, job);
     let told = stepped.answer;
@@ -114,8 +134,7 @@ pub extern "C" fn jsx_root(
     ensures { λ _. ⌜ now (calls .exit) ≡ rootOver (now (text .entry)) (now (state .entry)) (now (tape .entry)) (now (calls .entry)) (now (notices .entry)) .calls ⌝ }
     ensures { λ _. ⌜ now (notices .exit) ≡ rootOver (now (text .entry)) (now (state .entry)) (now (tape .entry)) (now (calls .entry)) (now (notices .entry)) .notices ⌝ }
 {
-    let before = unpack(state);
-    let from = before.state;
+    let from = state_from(state);
     let stepped = lower_root(text, from, tape, calls, notices);
     let answer = stepped.answer;
     let next = stepped.state;
@@ -161,8 +180,7 @@ pub extern "C" fn jsx_roots(
     ensures { λ _. ⌜ now (calls .exit) ≡ runOver (now (text .entry)) (now (state .entry)) (now (roots .entry)) (now (calls .entry)) (now (notices .entry)) .world .calls ⌝ }
     ensures { λ _. ⌜ now (notices .exit) ≡ runOver (now (text .entry)) (now (state .entry)) (now (roots .entry)) (now (calls .entry)) (now (notices .entry)) .world .notices ⌝ }
 {
-    let before = unpack(state);
-    let from = before.state;
+    let from = state_from(state);
     let listed = lower_list(text, from, roots, calls, notices);
     let told = listed.answer;
     let next = listed.state;
@@ -179,8 +197,7 @@ fn tell_records(text: &[u8], state: State, target: &mut [u8], figure: &mut usize
     ensures { λ _. ⌜ now (target .exit) ≡ recordsTarget (now (target .entry)) (judgeRecords (now (text .entry)) state (length (now (target .entry)))) ⌝ }
 {
     let answer = write_records(text, state, target);
-    *figure = records_figure(answer);
-    records_number(answer)
+    tell(answer, figure)
 }
 
 // Writes the record tape; the figure is how many bytes it has.
@@ -195,9 +212,40 @@ pub extern "C" fn jsx_records(
     ensures { λ _. ⌜ now (figure .exit) ≡ recordsFigure (recordsAnswer (recordsOver (now (text .entry)) (now (state .entry)) (length (now (target .entry))))) ⌝ }
     ensures { λ _. ⌜ now (target .exit) ≡ recordsTarget (now (target .entry)) (recordsOver (now (text .entry)) (now (state .entry)) (length (now (target .entry)))) ⌝ }
 {
-    let unpacked = unpack(state);
-    let from = unpacked.state;
-    tell_records(text, from, target, figure)
+    tell_records(text, state_from(state), target, figure)
+}
+
+// The settings as they stand after the comments, at the front of the target; the figure is how many bytes they have, 46.
+#[no_mangle]
+pub extern "C" fn jsx_settings(
+    text: &[u8],
+    state: &[u8],
+    target: &mut [u8],
+    figure: &mut usize,
+) -> u8
+    ensures { λ r. ⌜ r ≡ recordsNumber (recordsAnswer (settingsOver (now (text .entry)) (now (state .entry)) (length (now (target .entry))))) ⌝ }
+    ensures { λ _. ⌜ now (figure .exit) ≡ recordsFigure (recordsAnswer (settingsOver (now (text .entry)) (now (state .entry)) (length (now (target .entry))))) ⌝ }
+    ensures { λ _. ⌜ now (target .exit) ≡ recordsTarget (now (target .entry)) (settingsOver (now (text .entry)) (now (state .entry)) (length (now (target .entry)))) ⌝ }
+{
+    let answer = write_settings(text, state_from(state), target);
+    tell(answer, figure)
+}
+
+// The text of the source that a B0 of the record tape names, at the front of the target; the figure is how many bytes it has.
+#[no_mangle]
+pub extern "C" fn jsx_source(
+    text: &[u8],
+    state: &[u8],
+    source: u8,
+    target: &mut [u8],
+    figure: &mut usize,
+) -> u8
+    ensures { λ r. ⌜ r ≡ recordsNumber (recordsAnswer (sourceOver (now (text .entry)) (now (state .entry)) source (length (now (target .entry))))) ⌝ }
+    ensures { λ _. ⌜ now (figure .exit) ≡ recordsFigure (recordsAnswer (sourceOver (now (text .entry)) (now (state .entry)) source (length (now (target .entry))))) ⌝ }
+    ensures { λ _. ⌜ now (target .exit) ≡ recordsTarget (now (target .entry)) (sourceOver (now (text .entry)) (now (state .entry)) source (length (now (target .entry)))) ⌝ }
+{
+    let answer = write_source(text, state_from(state), source, target);
+    tell(answer, figure)
 }
 
 // How many bytes of the call target and of the notice target are filled: 0, or 12 where the bytes are no state's.
@@ -221,7 +269,8 @@ pub extern "C" fn jsx_fills(state: &[u8], calls: &mut usize, notices: &mut usize
 // notices take at the most is the length of the tape.
 #[no_mangle]
 pub extern "C" fn jsx_call_room(tape: &[u8]) -> usize
-    ensures { λ r. ⌜ ((text : List ℕ) (s : Settings) (js : List Import) (o : Root) (u : ℕ) → length (now (tape .entry)) ≤ 65535 → readRoot text (now (tape .entry)) ≡ done o u → length (loweredAfter text s js o .calls) ≤ r) ⌝ }
+    ensures { λ r. ⌜ r ≡ callRoom (now (tape .entry)) ⌝ }
+    ensures { λ r. ⌜ HoldsCalls (now (tape .entry)) r ⌝ }
 {
     call_room(tape)
 }
@@ -251,6 +300,7 @@ pub extern "C" fn jsx_job(
     ensures { λ _. ⌜ now (calls .exit) ≡ jobOver (now (text .entry)) (now (job .entry)) (now (roots .entry)) (now (calls .entry)) (now (notices .entry)) (now (records .entry)) .world .calls ⌝ }
     ensures { λ _. ⌜ now (notices .exit) ≡ jobOver (now (text .entry)) (now (job .entry)) (now (roots .entry)) (now (calls .entry)) (now (notices .entry)) (now (records .entry)) .world .notices ⌝ }
     ensures { λ _. ⌜ now (records .exit) ≡ jobOver (now (text .entry)) (now (job .entry)) (now (roots .entry)) (now (calls .entry)) (now (notices .entry)) (now (records .entry)) .records ⌝ }
+    ensures { λ _. ⌜ ((s : Settings) → judgeOpening (now (text .entry)) (now (job .entry)) ≡ accepted s → Served (now (text .entry)) s (now (calls .entry)) (now (notices .entry)) (take (jobOver (now (text .entry)) (now (job .entry)) (now (roots .entry)) (now (calls .entry)) (now (notices .entry)) (now (records .entry)) .taken) (rootsIn (now (roots .entry)))) (jobOver (now (text .entry)) (now (job .entry)) (now (roots .entry)) (now (calls .entry)) (now (notices .entry)) (now (records .entry)) .world)) ⌝ }
 {
     let opening = open_job(text, job);
     let opened = opening.answer;

@@ -1,15 +1,14 @@
--- Runs over lists of roots, and what of the targets is printed after one.
---     lowered, ran-none, ran-next     a run root by root
---     filled                          a run leaves fills within the targets
---     job-fresh                       nothing is written when a job is opened
---     records-within                  the records lie within their target
---     root-size, few                  sizes of parts
+-- The first root of bytes that were read, and what of the targets is printed after a run.
+--     first-unread, first-cut, first-root     the first root, by the code's tests
+--     left-fits                               roots leave fills within the targets
+--     job-fresh                               nothing is written when a job is opened
+--     records-within                          the records lie within their target
 -- Assumes nothing.
 use mathlib.Core.Path.{_≡_, refl, sym, ap, subst, _∙_}
-use mathlib.Core.List.{List, [], _∷_, _++_}
-use Prim.Native.Nat.{ℕ, _+_, _-_, _≤_}
+use mathlib.Core.List.{List, [], _∷_}
+use Prim.Native.Nat.{ℕ, zero, suc, _+_, _-_, _≤_, _<_}
 use native.Mathlib.Omega.{arith}
-use lib.ListN.{length, take, length-take}
+use lib.ListN.{length, take, drop}
 use Rattle.definitions.specs.declared.options.Settings.{Settings}
 use Rattle.definitions.specs.declared.state.State.{State}
 use Rattle.definitions.specs.declared.state.Answer.the-variants as answer
@@ -19,33 +18,53 @@ use Rattle.definitions.specs.declared.state.Written.the-variants as written
 use Rattle.definitions.specs.Judging.{Judged, accepted, refused}
 use Rattle.definitions.specs.Opening.{judgeOpening}
 use Rattle.definitions.specs.Entries.{openedBy, opened, Lowered, judgeRoot, moved, outcomeBy, rootOutcome, judgeRecords, recordsAnswer}
-use Rattle.definitions.specs.Series.{World, next, series}
+use Rattle.definitions.specs.Series.{World, outcomeIn, next, series}
 use Rattle.definitions.proofs.Verdicts.{length-laid, root-taken, records-taken}
-use Rattle.definitions.proofs.RootSeries.{series-append}
-use Rattle.jsxseries.specs.declared.series.Next.{Next}
-use Rattle.jsxseries.specs.declared.series.Next.the-variants.{Root}
-use Rattle.jsxseries.specs.Running.{world, Ran, sizeIn}
+use Rattle.tape.specs.Numbers.{u16At}
+use Rattle.lowering.specs.RootLists.{rootsFrom, rootsIn, rootsBy}
+use Rattle.lowering.proofs.Listed.{cut-length, cut-root, whole, one-more}
+use Rattle.jsxseries.specs.declared.series.First.{First}
+use Rattle.jsxseries.specs.declared.series.First.the-variants.{Root, Missing}
+use Rattle.jsxseries.specs.Running.{world, firstOf, Fits}
 
--- ---- root by root
+-- ---- the first root of a list
 
-pub lowered : (text : List ℕ) (s : State) (tape calls notices : List ℕ) {x : Stepped} {cs ns : List ℕ} → x ≡ rootOutcome text s tape calls notices .stepped
-    → cs ≡ rootOutcome text s tape calls notices .calls → ns ≡ rootOutcome text s tape calls notices .notices
-    → world (x .state) cs ns ≡ next text (world s calls notices) tape
-lowered text s tape calls notices e c n = λ ι. world (e ι .state) (c ι) (n ι)
+module _ (text : List ℕ) (w : World) (l : List ℕ) where
+  -- what is said of a list's first root, and of the world behind it
+  abbrev Takes : First → World → Type 0
+  Takes f v = (f ≡ firstOf text w (rootsIn l)) × (v ≡ series text w (take 1 (rootsIn l)))
 
-pub ran-none : (text : List ℕ) (w : World) → Ran text w w
-unfolding series
-ran-none text w = record { roots = []; came = refl }
+  missing : ((most : ℕ) → rootsFrom (suc most) l ≡ []) → Takes Missing w
+  unfolding rootsIn rootsFrom firstOf series
+  missing e = go (length l)
+    where
+      go : (most : ℕ) → (Missing ≡ firstOf text w (rootsFrom most l)) × (w ≡ series text w (take 1 (rootsFrom most l)))
+      go zero = (refl, refl)
+      go (suc most) = (rw (e most) refl, rw (e most) refl)
 
-pub ran-next : (text : List ℕ) (v w x : World) (tape : List ℕ) → Ran text v w → x ≡ next text w tape → Ran text v x
-unfolding series
-ran-next text v w x tape r e =
-    record { roots = r .roots ++ (tape ∷ []); came = e ∙ ap (λ (y : World). next text y tape) (r .came) ∙ sym (series-append text v (r .roots) (tape ∷ [])) }
+  pub first-unread : length l < 2 → Takes Missing w
+  unfolding rootsBy
+  first-unread h = missing (cut-length l 0 (omega arith))
+
+  module _ (h : 2 ≤ length l) (n : ℕ) (e : n ≡ u16At l 0) where
+    pub first-cut : length l - 2 < n → Takes Missing w
+    unfolding rootsBy
+    first-cut k = missing (cut-root l 0 h n e k)
+
+    pub first-root : n ≤ length l - 2 → {x : Stepped} {cs ns : List ℕ} → x ≡ outcomeIn text w (take (2 + n - 2) (drop 2 l)) .stepped
+        → cs ≡ outcomeIn text w (take (2 + n - 2) (drop 2 l)) .calls → ns ≡ outcomeIn text w (take (2 + n - 2) (drop 2 l)) .notices
+        → Takes (Root (x .answer)) (world (x .state) cs ns)
+    unfolding rootsIn rootsBy firstOf series
+    first-root k {x} {cs} {ns} p q r = go (length l) h
+      where
+        root : List ℕ
+        root = take (2 + n - 2) (drop 2 l)
+
+        go : (most : ℕ) → 2 ≤ most → (Root (x .answer) ≡ firstOf text w (rootsFrom most l)) × (world (x .state) cs ns ≡ series text w (take 1 (rootsFrom most l)))
+        go zero j = absurd (omega arith)
+        go (suc most) j = rw (whole l 0 h n e k most) (ap (λ (y : Stepped). Root (y .answer)) p, one-more text w root p q r)
 
 -- ---- fills
-
-abbrev pub Fits : World → Type 0
-Fits w = (w .state .calls ≤ length (w .calls)) × (w .state .notices ≤ length (w .notices))
 
 next-fits : (text : List ℕ) (w : World) (tape : List ℕ) → Fits w → Fits (next text w tape)
 unfolding rootOutcome outcomeBy moved
@@ -68,9 +87,8 @@ unfolding series
 series-fits text w [] f = f
 series-fits text w (t ∷ ts) f = series-fits text (next text w t) ts (next-fits text w t f)
 
-pub filled : (text : List ℕ) (s : State) (calls notices : List ℕ) (w : World) → s .calls ≡ 0 → s .notices ≡ 0 → Ran text (world s calls notices) w → Fits w
-filled text s calls notices w c n r =
-    rw (r .came) (series-fits text (world s calls notices) (r .roots) (omega arith, omega arith))
+pub left-fits : (text : List ℕ) (w : World) (roots : List (List ℕ)) {v : World} → v ≡ series text w roots → Fits w → Fits v
+left-fits text w roots e f = subst Fits (sym e) (series-fits text w roots f)
 
 -- ---- opening
 
@@ -91,12 +109,3 @@ records-within text s k n w e f = go (judgeRecords text s k) refl (sym e ∙ f)
     go : (j : Judged (List ℕ)) → judgeRecords text s k ≡ j → recordsAnswer j ≡ written.Accepted n → n ≤ k
     go (accepted t) i g = let m : length t ≡ n = cc in omega (arith, records-taken text s k t i, m)
     go (refused r) i g = let z : _≡_ {A = ℕ} 0 1 = cc in absurd (omega arith)
-
--- ---- parts
-
-pub root-size : (x : Next) (n : ℕ) → x ≡ Root n → sizeIn x ≤ 65535 → n ≤ 65535
-unfolding sizeIn
-root-size x n e h = subst (λ (y : Next). sizeIn y ≤ 65535) e h
-
-pub few : (l : List ℕ) (n k : ℕ) → n ≤ k → length (take (n - 0) l) ≤ k
-few l n k h = omega (arith, length-take (n - 0) l)

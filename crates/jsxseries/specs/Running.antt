@@ -1,20 +1,20 @@
--- What a run over a list of roots comes to.
-use mathlib.Core.Path.{_≡_}
-use Prim.Native.Nat.{ℕ}
-use mathlib.Core.List.{List}
+-- What lowering the first root of a list comes to.
+use Prim.Native.Nat.{ℕ, _≤_}
+use mathlib.Core.List.{List, [], _∷_}
+use lib.ListN.{length}
 use Rattle.definitions.specs.declared.state.State.{State}
-use Rattle.definitions.specs.Series.{World, series}
-use Rattle.jsxseries.specs.declared.series.Next.{Next}
-use Rattle.jsxseries.specs.declared.series.Next.the-variants.{Root, End}
+use Rattle.definitions.specs.Series.{World, outcomeIn}
+use Rattle.jsxseries.specs.declared.series.First.{First}
+use Rattle.jsxseries.specs.declared.series.First.the-variants.{Root, Missing}
 
 abbrev pub world : State → List ℕ → List ℕ → World
 world s calls notices = record { state = s; calls = calls; notices = notices }
 
--- w is what some list of roots leaves of v: no contract can say which bytes are read
-pub record Ran (text : List ℕ) (v w : World) : Type 0 where
-  pub roots : List (List ℕ)
-  pub came : w ≡ series text v roots
+-- the answer of the first of the roots, if there is one
+unfoldable pub firstOf : List ℕ → World → List (List ℕ) → First
+firstOf text w [] = Missing
+firstOf text w (t ∷ ts) = Root (outcomeIn text w t .stepped .answer)
 
-unfoldable pub sizeIn : Next → ℕ
-sizeIn (Root n) = n
-sizeIn End = 0
+-- the fills lie within the targets
+abbrev pub Fits : World → Type 0
+Fits w = (w .state .calls ≤ length (w .calls)) × (w .state .notices ≤ length (w .notices))

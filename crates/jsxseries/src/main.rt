@@ -3,8 +3,7 @@
 mod series;
 
 ghost use mathlib.Core.Path.{_≡_};
-ghost use Prim.Native.Nat.{_≤_};
-ghost use lib.ListN.{length};
+ghost use Rattle.jsxseries.specs.Running.{world, Fits};
 use definitions::state::Answer;
 use definitions::state::State;
 use definitions::state::Written;
@@ -15,48 +14,57 @@ use series::lower_all;
 use settings::opening::open_job;
 use store::module_imports::write_records;
 
-fn print_records(text: &[u8], state: State) {
+fn print_records(text: &[u8], state: State, line: &mut [u8]) {
     let mut records = io::large_buffer();
     match write_records(text, state, &mut records) {
         Written::Refused(refusal) => {
-            print_refusal(refusal);
+            print_refusal(refusal, line);
         }
         Written::Accepted(n) => {
-            print_line(b"records", &records[0..n]);
+            print_line(b"records", &records[0..n], line);
         }
     }
 }
 
-// The first n bytes.
-fn print_front(word: &[u8], bytes: &[u8], n: usize)
-    requires { ⌜ n ≤ length (now bytes) ⌝ }
+// What the roots left: the fronts of the targets, and the records. A line that can't be written is the last.
+fn print_left(text: &[u8], state: State, calls: &[u8], notices: &[u8], line: &mut [u8])
+    requires { ⌜ Fits (world state (now calls) (now notices)) ⌝ }
 {
-    print_line(word, &bytes[0..n]);
+    let called = state.calls;
+    if !print_line(b"calls", &calls[0..called], line) {
+        return;
+    }
+    let noticed = state.notices;
+    if !print_line(b"notices", &notices[0..noticed], line) {
+        return;
+    }
+    print_records(text, state, line);
 }
 
 // The state is that of a job that was just opened. A list that is missing has no roots: nothing can be read of it.
-fn run_roots(text: &[u8], state: State)
+fn run_roots(text: &[u8], state: State, line: &mut [u8])
     requires { ⌜ (state .calls ≡ 0) × (state .notices ≡ 0) ⌝ }
 {
     let mut calls = io::large_buffer();
     let mut notices = io::large_buffer();
     let fd = os::open_read(b"roots.bin");
-    let after = lower_all(fd, text, state, &mut calls, &mut notices);
+    let run = lower_all(fd, text, state, &mut calls, &mut notices, line);
     libc::close(fd);
-    print_front(b"calls", &calls, after.calls);
-    print_front(b"notices", &notices, after.notices);
-    print_records(text, after);
+    let after = run.state;
+    if run.written {
+        print_left(text, after, &calls, &notices, line);
+    }
 }
 
-fn run_job(job: &[u8], text: &[u8]) {
+fn run_job(job: &[u8], text: &[u8], line: &mut [u8]) {
     let opened = open_job(text, job);
     let answer = opened.answer;
     let state = opened.state;
     match answer {
         Answer::Refused(refusal) => {
-            print_refusal(refusal);
+            print_refusal(refusal, line);
         }
-        Answer::Accepted => run_roots(text, state),
+        Answer::Accepted => run_roots(text, state, line),
     }
 }
 
@@ -65,5 +73,7 @@ fn main() {
     let mut text = io::large_buffer();
     let j = read_file(b"job.bin", &mut job);
     let t = read_file(b"text.bin", &mut text);
-    run_job(&job[0..j], &text[0..t]);
+    // the longest line has three bytes for each of a full target, its word and a line feed
+    let mut line = [0u8; 196800];
+    run_job(&job[0..j], &text[0..t], &mut line);
 }

@@ -1,13 +1,13 @@
 -- What the entries of a job with one root come to is what `jsxtape` (definitions, Program) prints.
 --     root-refused, records-refused, all-written     by the answers of the root and of the records
 --     job-refused, job-fresh, job-opened             by the answer of the opening
---     parts, few                                     what is printed is a part of each target
+--     parts                                          what is printed is a part of each target
 -- Assumes nothing.
 use mathlib.Core.Path.{_≡_, refl, sym, ap, subst, _∙_}
 use mathlib.Core.List.{List, _++_}
-use Prim.Native.Nat.{ℕ, _+_, _-_, _≤_, zero-le}
+use Prim.Native.Nat.{ℕ, _+_, _≤_, zero-le}
 use native.Mathlib.Omega.{arith}
-use lib.ListN.{length, take, length-take}
+use lib.ListN.{length, take}
 use Rattle.tape.specs.declared.refusal.Refusal.{Refusal}
 use Rattle.definitions.specs.declared.options.Settings.{Settings}
 use Rattle.definitions.specs.declared.state.State.{State}
@@ -162,6 +162,3 @@ unfolding most
 parts e c n d i m h =
     let w : (c ≤ room) × (n ≤ room) × (d ≤ room) = subst (λ (x : Ended). most x room) i m in
     (omega (arith, w .0, h .calls-room), omega (arith, w .1, h .notices-room), omega (arith, w .2, h .records-room))
-
-pub few : (l : List ℕ) (n : ℕ) → length l ≡ room → length (take (n - 0) l) ≤ 65536
-few l n h = omega (arith, length-take (n - 0) l)

@@ -9,19 +9,23 @@ use files::read_file;
 use job::Ended;
 use job::run_job;
 
-// The front of each target, or the refusal.
-fn print_ended(ended: Ended, calls: &[u8], notices: &[u8], records: &[u8])
+// The front of each target, or the refusal. A line that can't be written is the last.
+fn print_ended(ended: Ended, calls: &[u8], notices: &[u8], records: &[u8], line: &mut [u8])
     requires { ⌜ most ended room ⌝ }
     requires { ⌜ Rooms (now calls) (now notices) (now records) ⌝ }
 {
     match ended {
         Ended::Refused(refusal) => {
-            print_refusal(refusal);
+            print_refusal(refusal, line);
         }
         Ended::Written(c, n, d) => {
-            print_line(b"calls", &calls[0..c]);
-            print_line(b"notices", &notices[0..n]);
-            print_line(b"records", &records[0..d]);
+            if !print_line(b"calls", &calls[0..c], line) {
+                return;
+            }
+            if !print_line(b"notices", &notices[0..n], line) {
+                return;
+            }
+            print_line(b"records", &records[0..d], line);
         }
     }
 }
@@ -44,5 +48,7 @@ fn main() {
         &mut notices,
         &mut records,
     );
-    print_ended(ended, &calls, &notices, &records);
+    // the longest of the three lines has three bytes for each of a full target, its word and a line feed
+    let mut line = [0u8; 196800];
+    print_ended(ended, &calls, &notices, &records, &mut line);
 }

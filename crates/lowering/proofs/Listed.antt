@@ -4,9 +4,11 @@
 --     one-more                                what a root's outcome makes of a world
 --     Left, left-all, left-root, left-end     the series from a place of the list on
 --     Row, row-all, row-end, row-refused, row-root     the same up to the first root that is refused
+--     list-long, list-ill, list-forged, list-going, list-tested     text and state before the roots, by the code's tests
 --     run-is                                  what a run comes to; what it leaves is a series of roots
 -- Assumes nothing.
 use mathlib.Core.Path.{_≡_, refl, sym, ap, subst, _∙_}
+use mathlib.Core.Bool.{Bool, true, false, not, _||_}
 use mathlib.Core.List.{List, [], _∷_}
 use Prim.Native.Nat.{ℕ, zero, suc, _+_, _-_, _≤_, _<_}
 use native.Mathlib.Omega.{arith}
@@ -16,15 +18,30 @@ use lib.Seq.{drop-drop, length-take-le}
 use borrow.Author.Tests.{lt-ltb, le-ltb}
 use Rattle.text.proofs.Lists.{drop-one}
 use Rattle.tape.specs.Numbers.{u16At}
+use Rattle.text.specs.declared.bytes.Found.{Found}
+use Rattle.text.specs.declared.bytes.Found.the-variants.{At, Nothing}
+use Rattle.text.specs.Utf8.{firstIll}
 use Rattle.tape.specs.declared.refusal.Refusal.{Refusal}
+use Rattle.tape.specs.declared.refusal.Refusal.the-variants as refusal
+use Rattle.definitions.specs.declared.state.State.{State}
 use Rattle.definitions.specs.declared.state.Answer.{Answer}
 use Rattle.definitions.specs.declared.state.Answer.the-variants.{Accepted, Refused}
 use Rattle.definitions.specs.declared.state.Stepped.{Stepped}
+use Rattle.definitions.specs.Judging.{Judged, accepted, refused, refuse, refuseAt}
+use Rattle.definitions.specs.States.{sound, overfilled}
 use Rattle.definitions.specs.Series.{World, outcomeIn, next, series}
+use Rattle.definitions.specs.declared.options.Settings.{Settings}
+use Rattle.definitions.specs.Opening.{judgeOpening}
+use Rattle.definitions.specs.Entries.{openState}
+use Rattle.definitions.specs.Claim.{Kept}
 use Rattle.definitions.proofs.RootSeries.{refused-same}
+use Rattle.definitions.proofs.Demand3.{demand3}
 use Rattle.lowering.specs.declared.series.Ahead.{Ahead}
 use Rattle.lowering.specs.declared.series.Ahead.the-variants.{Root, End}
-use Rattle.lowering.specs.RootLists.{rootsFrom, rootsIn, rootsBy, Run, runBy, runOf, listBytes, ending, run, Stands}
+use Rattle.lowering.specs.declared.series.Listed.{Listed}
+use Rattle.lowering.specs.Steps.{Going}
+use Rattle.lowering.specs.RootLists.{rootsFrom, rootsIn, rootsBy, Run, runBy, runOf, listBytes, ending, runTested, judgeList, judgedRun, run, ran, Stands}
+use Rattle.lowering.proofs.Judging.{unforged}
 
 -- ---- what is ahead
 
@@ -114,10 +131,10 @@ pub record Row (text l : List ℕ) (begun : World) (at n : ℕ) (w : World) : Ty
   pub most : ℕ
   pub enough : length l ≤ most + at
   pub whole : at + listBytes (rootsFrom most (drop at l)) ≡ listBytes (rootsIn l)
-  pub same : run text begun l ≡ behind n (runOf text w (ending (length l) (listBytes (rootsIn l))) (rootsFrom most (drop at l)))
+  pub same : runTested text begun l ≡ behind n (runOf text w (ending (length l) (listBytes (rootsIn l))) (rootsFrom most (drop at l)))
 
 pub row-all : (text l : List ℕ) (w : World) → Row text l w 0 0 w
-unfolding rootsIn run
+unfolding rootsIn runTested
 row-all text l w =
     let e = ending (length l) (listBytes (rootsIn l)) in
     let z : 0 + runOf text w e (rootsFrom (length l) l) .taken ≡ runOf text w e (rootsFrom (length l) l) .taken = omega arith in
@@ -132,7 +149,7 @@ row-all text l w =
 
 module _ {text l : List ℕ} {begun : World} {at n : ℕ} {w : World} (row : Row text l begun at n w) {r : Ahead}
     (ahead : (most : ℕ) → rootsFrom (suc most) (drop at l) ≡ rootsBy most l r) where
-  pub row-end : r ≡ End → run text begun l ≡ record { answer = ending (length l) at; world = w; taken = n }
+  pub row-end : r ≡ End → runTested text begun l ≡ record { answer = ending (length l) at; world = w; taken = n }
   unfolding rootsFrom rootsBy runOf listBytes
   row-end e = row .same ∙ go (row .most) (row .whole)
     where
@@ -166,7 +183,7 @@ module _ {text l : List ℕ} {begun : World} {at n : ℕ} {w : World} (row : Row
     over most = ap (λ (x : List (List ℕ)). behind n (runOf text w (ending (length l) (listBytes (rootsIn l))) x)) (ahead-root most)
 
     pub row-refused : {x : Refusal} {w′ : World} → outcomeIn text w (take (e - a) (drop a l)) .stepped .answer ≡ Refused x
-        → w′ ≡ next text w (take (e - a) (drop a l)) → run text begun l ≡ record { answer = Refused x; world = w′; taken = n }
+        → w′ ≡ next text w (take (e - a) (drop a l)) → runTested text begun l ≡ record { answer = Refused x; world = w′; taken = n }
     unfolding runBy
     row-refused {x} {w′} g step =
         row .same ∙ go (row .most) (row .enough)
@@ -188,7 +205,7 @@ module _ {text l : List ℕ} {begun : World} {at n : ℕ} {w : World} (row : Row
     row-root {w′} g step = subst (λ (x : World). Row text l begun e (n + 1) x) (sym step) (go (row .most) (row .enough) (row .whole) (row .same))
       where
         go : (most : ℕ) → length l ≤ most + at → at + listBytes (rootsFrom most (drop at l)) ≡ listBytes (rootsIn l)
-            → run text begun l ≡ behind n (runOf text w (ending (length l) (listBytes (rootsIn l))) (rootsFrom most (drop at l)))
+            → runTested text begun l ≡ behind n (runOf text w (ending (length l) (listBytes (rootsIn l))) (rootsFrom most (drop at l)))
             → Row text l begun e (n + 1) (next text w (take (e - a) (drop a l)))
         go zero h b q = absurd (omega (arith, here))
         go (suc most) h b q =
@@ -218,20 +235,83 @@ run-series text w end (t ∷ ts) = go (outcomeIn text w t .stepped .answer) (run
     go Accepted h = h
     go (Refused x) h = refl
 
--- a run's parts
-pub run-is : (text l : List ℕ) (begun : World) {w : World} {a : Answer} {n : ℕ} → run text begun l ≡ record { answer = a; world = w; taken = n }
-    → (a ≡ run text begun l .answer) × ((n ≡ run text begun l .taken) × ((w ≡ run text begun l .world) × (w ≡ series text begun (take n (rootsIn l)))))
-unfolding run
-run-is text l begun {w} {a} {n} e =
-    let t : n ≡ run text begun l .taken = ap (λ (r : Run). r .taken) (sym e) in
-    let v : w ≡ run text begun l .world = ap (λ (r : Run). r .world) (sym e) in (
-      ap (λ (r : Run). r .answer) (sym e),
+-- ---- text and state before the roots
+
+abbrev pub begun : State → List ℕ → List ℕ → World
+begun s calls notices = record { state = s; calls = calls; notices = notices }
+
+-- what is left is a series of the roots that were taken, refused before them or not
+abbrev Leaves : List ℕ → World → List (List ℕ) → Run → Type 0
+Leaves text w roots r = r .world ≡ series text w (take (r .taken) roots)
+
+module _ (text : List ℕ) (w : World) (roots : List (List ℕ)) where
+  leaves-refuse : (b : Bool) (x : Refusal) (j : Judged Run) → Leaves text w roots (judgedRun w j) → Leaves text w roots (judgedRun w (refuse b x j))
+  unfolding refuse judgedRun series
+  leaves-refuse true x j h = refl
+  leaves-refuse false x j h = h
+
+  leaves-refuse-at : (f : Found) (x : ℕ → Refusal) (j : Judged Run) → Leaves text w roots (judgedRun w j) → Leaves text w roots (judgedRun w (refuseAt f x j))
+  unfolding refuseAt judgedRun series
+  leaves-refuse-at (At p) x j h = refl
+  leaves-refuse-at Nothing x j h = h
+
+pub run-leaves : (text : List ℕ) (w : World) (l : List ℕ) → Leaves text w (rootsIn l) (run text w l)
+unfolding run judgeList runTested judgedRun
+run-leaves text w l =
+    leaves-refuse text w (rootsIn l) _ _ _
+    (leaves-refuse-at text w (rootsIn l) _ _ _
+    (leaves-refuse text w (rootsIn l) _ _ _ (run-series text w (ending (length l) (listBytes (rootsIn l))) (rootsIn l))))
+
+-- by the code's tests
+module _ (text : List ℕ) (s : State) (calls notices l : List ℕ) where
+  pub list-long : {r : Listed} → 65535 < length text → r ≡ record { answer = Refused refusal.TooLong; state = s; taken = 0 }
+      → ran r calls notices ≡ run text (begun s calls notices) l
+  unfolding run judgeList judgedRun refuse
+  list-long h e = rw (e, lt-ltb 65535 (length text) h)
+
+  pub list-ill : {r : Listed} (p : ℕ) → length text ≤ 65535 → firstIll text ≡ At p → r ≡ record { answer = Refused (refusal.NotUtf8 p); state = s; taken = 0 }
+      → ran r calls notices ≡ run text (begun s calls notices) l
+  unfolding run judgeList judgedRun refuse refuseAt
+  list-ill p h f e = rw (e, le-ltb 65535 (length text) h, f)
+
+  module _ (short : length text ≤ 65535) (formed : firstIll text ≡ Nothing) where
+    pub list-forged : {r : Listed} → (not (sound text s) || overfilled s (length calls) (length notices)) ≡ true → r ≡ record { answer = Refused refusal.Forged; state = s; taken = 0 }
+        → ran r calls notices ≡ run text (begun s calls notices) l
+    unfolding run judgeList judgedRun refuse refuseAt
+    list-forged f e = rw (e, le-ltb 65535 (length text) short, formed, f)
+
+    module _ (f : (not (sound text s) || overfilled s (length calls) (length notices)) ≡ false) where
+      pub list-going : Going text s (length calls) (length notices)
+      list-going =
+          let u = unforged text s [] calls notices (record { short = short; tape-short = omega arith; formed = formed }) f in
+          record { short = short; formed = formed; bore = u .bore; calls-within = u .calls-within; notices-within = u .notices-within }
+
+      pub list-tested : {r : Listed} {calls′ notices′ : List ℕ} → ran r calls′ notices′ ≡ runTested text (begun s calls notices) l
+          → ran r calls′ notices′ ≡ run text (begun s calls notices) l
+      unfolding run judgeList judgedRun refuse refuseAt
+      list-tested e = rw (le-ltb 65535 (length text) short, formed, f) e
+
+-- a run's parts, and demand 3 of the roots that it took
+pub run-is : (text l : List ℕ) (s : State) (calls notices : List ℕ) {r : Listed} {calls′ notices′ : List ℕ}
+    → ran r calls′ notices′ ≡ run text (begun s calls notices) l
+    → (r .answer ≡ run text (begun s calls notices) l .answer)
+    × ((r .taken ≡ run text (begun s calls notices) l .taken)
+    × ((begun (r .state) calls′ notices′ ≡ run text (begun s calls notices) l .world)
+    × ((begun (r .state) calls′ notices′ ≡ series text (begun s calls notices) (take (r .taken) (rootsIn l)))
+    × ((job : List ℕ) (z : Settings) → judgeOpening text job ≡ accepted z → s ≡ openState z → Kept text z calls notices (take (r .taken) (rootsIn l))))))
+run-is text l s calls notices {r} e =
+    let w = begun s calls notices in
+    let t : r .taken ≡ run text w l .taken = ap (λ (x : Run). x .taken) e in
+    let v = ap (λ (x : Run). x .world) e in (
+      ap (λ (x : Run). x .answer) e,
       (
         t,
         (
           v,
-          v ∙ run-series text begun (ending (length l) (listBytes (rootsIn l))) (rootsIn l)
-              ∙ ap (λ (k : ℕ). series text begun (take k (rootsIn l))) (sym t),
+          (
+            v ∙ run-leaves text w l ∙ ap (λ (k : ℕ). series text w (take k (rootsIn l))) (sym t),
+            λ job z h q. demand3 text job z h calls notices (take (r .taken) (rootsIn l)),
+          ),
         ),
       ),
     )

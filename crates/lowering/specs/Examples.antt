@@ -11,7 +11,7 @@ use Rattle.definitions.specs.Judging.{refuse, refuseAt}
 use Rattle.definitions.specs.States.{sound}
 use Rattle.definitions.specs.Entries.{noJob, judgeRoot, outcomeBy, rootOutcome}
 use Rattle.definitions.specs.Series.{World}
-use Rattle.lowering.specs.RootLists.{rootsFrom, rootsIn, Run, runBy, runOf, listBytes, ending, run}
+use Rattle.lowering.specs.RootLists.{rootsFrom, rootsIn, Run, runBy, runOf, listBytes, ending, runTested, judgeList, judgedRun, run}
 
 pub no-list : rootsIn [] ≡ []
 unfolding rootsIn rootsFrom
@@ -64,7 +64,7 @@ toldOf r = r .taken ∷ figures (r .answer)
 abbrev pub forged : World
 forged = record { state = noJob; calls = []; notices = [] }
 
--- no root, a root of length 0, two roots; cut in the first length and in the first root; cut behind a root, which is refused before that
+-- over a forged state: no root, a root of length 0, two roots; cut in the first length and in the first root; cut behind a root. The state is judged before all of them
 pub ended-lists :
     map (λ (l : List ℕ). toldOf (run [] forged l))
     ([]
@@ -74,12 +74,12 @@ pub ended-lists :
     ∷ (2 ∷ 0 ∷ 7 ∷ [])
     ∷ (1 ∷ 0 ∷ 7 ∷ 1 ∷ [])
     ∷ [])
-    ≡ (0 ∷ [])
+    ≡ (0 ∷ 12 ∷ 0 ∷ [])
     ∷ (0 ∷ 12 ∷ 0 ∷ [])
     ∷ (0 ∷ 12 ∷ 0 ∷ [])
-    ∷ (0 ∷ 3 ∷ 1 ∷ [])
-    ∷ (0 ∷ 3 ∷ 3 ∷ [])
+    ∷ (0 ∷ 12 ∷ 0 ∷ [])
+    ∷ (0 ∷ 12 ∷ 0 ∷ [])
     ∷ (0 ∷ 12 ∷ 0 ∷ [])
     ∷ []
-unfolding figures rootsIn rootsFrom runBy runOf listBytes ending run firstIll illFrom faultNumber numberOf figureOf refuse refuseAt sound judgeRoot outcomeBy rootOutcome
+unfolding figures rootsIn rootsFrom runBy runOf listBytes ending runTested judgeList judgedRun run firstIll illFrom faultNumber numberOf figureOf refuse refuseAt sound judgeRoot outcomeBy rootOutcome
 ended-lists = refl

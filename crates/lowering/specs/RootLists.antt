@@ -1,17 +1,21 @@
 -- A list of roots on one tape: roots end to end, each after its length as u16, little-endian. A list cut short ends with the last whole root.
 use Prim.Native.Nat.{ℕ, zero, suc, _+_, _-_, _*_, _≤_}
 use mathlib.Core.Path.{_≡_}
-use mathlib.Core.Bool.{cond}
+use mathlib.Core.Bool.{cond, not, _||_}
 use mathlib.Core.List.{List, [], _∷_}
 use lib.ListN.{length, take, drop}
 use lib.Dec.{eqb, ltb}
+use Rattle.text.specs.Utf8.{firstIll}
 use Rattle.tape.specs.declared.refusal.Fault.the-variants as fault
 use Rattle.tape.specs.declared.refusal.Refusal.the-variants as refusal
 use Rattle.definitions.specs.declared.state.Answer.{Answer}
 use Rattle.definitions.specs.declared.state.Answer.the-variants.{Accepted, Refused}
+use Rattle.definitions.specs.Judging.{Judged, accepted, refused, refuse, refuseAt, tooLong}
+use Rattle.definitions.specs.States.{sound, overfilled}
 use Rattle.definitions.specs.Series.{World, outcomeIn, next}
 use Rattle.lowering.specs.declared.series.Ahead.{Ahead}
 use Rattle.lowering.specs.declared.series.Ahead.the-variants.{Root, End}
+use Rattle.lowering.specs.declared.series.Listed.{Listed}
 
 -- a root of n bytes, where l follows its length, and the roots behind it
 abbrev rootThen : ℕ → List ℕ → List (List ℕ) → List (List ℕ)
@@ -55,9 +59,29 @@ listBytes (t ∷ ts) = 2 + length t + listBytes ts
 unfoldable pub ending : ℕ → ℕ → Answer
 ending size whole = cond (eqb whole size) Accepted (Refused (refusal.Tape fault.Grammar size))
 
+-- a list over a text and a state that are in order
+unfoldable pub runTested : List ℕ → World → List ℕ → Run
+runTested text w l = runOf text w (ending (length l) (listBytes (rootsIn l))) (rootsIn l)
+
+-- a list judges its text and its state as a root does, and before its roots: 1, 2, 12
+unfoldable pub judgeList : List ℕ → World → List ℕ → Judged Run
+judgeList text w l =
+    refuse (tooLong text) refusal.TooLong
+    (refuseAt (firstIll text) refusal.NotUtf8
+    (refuse (not (sound text (w .state)) || overfilled (w .state) (length (w .calls)) (length (w .notices))) refusal.Forged
+    (accepted (runTested text w l))))
+
+unfoldable pub judgedRun : World → Judged Run → Run
+judgedRun w (accepted r) = r
+judgedRun w (refused x) = record { answer = Refused x; world = w; taken = 0 }
+
 -- a list in a world
 unfoldable pub run : List ℕ → World → List ℕ → Run
-run text w l = runOf text w (ending (length l) (listBytes (rootsIn l))) (rootsIn l)
+run text w l = judgedRun w (judgeList text w l)
+
+-- what the code hands back, as a run
+abbrev pub ran : Listed → List ℕ → List ℕ → Run
+ran r calls notices = record { answer = r .answer; world = record { state = r .state; calls = calls; notices = notices }; taken = r .taken }
 
 -- ---- step by step
 

@@ -1,10 +1,12 @@
 // A list of roots, one after the other: document 01, "Series of roots".
 ghost use mathlib.Core.Path.{_≡_};
-ghost use mathlib.Core.Bool.{true};
 ghost use mathlib.Core.List.{List};
 ghost use Prim.Native.Nat.{ℕ, suc, _≤_};
 ghost use lib.ListN.{length, take, drop};
 ghost use Rattle.definitions.specs.declared.options.Settings.{Settings};
+ghost use Rattle.text.specs.declared.bytes.Found.the-variants.{Nothing};
+ghost use Rattle.text.specs.Utf8.{firstIll};
+ghost use Rattle.definitions.specs.declared.state.Answer.the-variants.{Refused};
 ghost use Rattle.definitions.specs.Judging.{accepted};
 ghost use Rattle.definitions.specs.Opening.{judgeOpening};
 ghost use Rattle.definitions.specs.Entries.{openState};
@@ -12,15 +14,18 @@ ghost use Rattle.definitions.specs.Entries.{rootOutcome};
 ghost use Rattle.definitions.specs.Series.{next, series};
 ghost use Rattle.definitions.specs.Claim.{Kept};
 ghost use Rattle.lowering.specs.Steps.{Going, Comes};
-ghost use Rattle.lowering.specs.RootLists.{rootsFrom, rootsIn, rootsBy, Stands, ending, run};
+ghost use Rattle.lowering.specs.RootLists.{rootsFrom, rootsIn, rootsBy, Stands, ending, runTested, run, ran};
 use crate::lower_root;
 use crate::lower_tape;
 use definitions::state::Answer;
 use definitions::state::State;
 use definitions::state::Stepped;
+use store::forged::is_forged;
 use tape::numbers::read_u16;
 use tape::refusal::Fault;
 use tape::refusal::Refusal;
+use text::bytes::Found;
+use text::utf8::first_ill_formed;
 
 // What is ahead on a list of roots: a whole root, from the one place to the other, or none.
 enum Ahead {
@@ -91,23 +96,19 @@ pub struct Listed {
     pub taken: usize,
 }
 
-// The root itself. Over a text and a state that a root was accepted over, neither is tested again.
-fn lower_one(
+// The root itself, over a text and a state that are in order.
+fn lower_tested(
     text: &[u8],
     state: State,
     root: &[u8],
     calls: &mut [u8],
     notices: &mut [u8],
-    tested: bool,
 ) -> Stepped
     requires { ⌜ length (now root) ≤ 65535 ⌝ }
-    requires { ⌜ (tested ≡ true → Going (now text) state (length (now calls)) (length (now notices))) ⌝ }
+    requires { ⌜ Going (now text) state (length (now calls)) (length (now notices)) ⌝ }
     ensures { λ r. ⌜ Comes (rootOutcome (now (text .entry)) state (now (root .entry)) (now (calls .entry)) (now (notices .entry))) r (now (calls .exit)) (now (notices .exit)) ⌝ }
 {
-    if tested {
-        return lower_tape(text, state, root, calls, notices);
-    }
-    lower_root(text, state, root, calls, notices)
+    lower_tape(text, state, root, calls, notices)
 }
 
 // The answer behind the last whole root of a list.
@@ -120,18 +121,16 @@ fn list_end(size: usize, whole: usize) -> Answer
     Answer::Refused(Refusal::Tape(Fault::Grammar, size))
 }
 
-// The roots of a list in turn, up to the first that is refused. The text is tested once, with the first of them.
-pub fn lower_list(
+// The roots in turn, over a text and a state that are in order: behind each root that is accepted they are again, so neither is tested any more.
+fn lower_in_turn(
     text: &[u8],
     state: State,
     roots: &[u8],
     calls: &mut [u8],
     notices: &mut [u8],
 ) -> Listed
-    ensures { λ r. ⌜ r .answer ≡ run (now (text .entry)) (record { state = state; calls = now (calls .entry); notices = now (notices .entry) }) (now (roots .entry)) .answer ⌝ }
-    ensures { λ r. ⌜ r .taken ≡ run (now (text .entry)) (record { state = state; calls = now (calls .entry); notices = now (notices .entry) }) (now (roots .entry)) .taken ⌝ }
-    ensures { λ r. ⌜ record { state = r .state; calls = now (calls .exit); notices = now (notices .exit) } ≡ run (now (text .entry)) (record { state = state; calls = now (calls .entry); notices = now (notices .entry) }) (now (roots .entry)) .world ⌝ }
-    ensures { λ r. ⌜ record { state = r .state; calls = now (calls .exit); notices = now (notices .exit) } ≡ series (now (text .entry)) (record { state = state; calls = now (calls .entry); notices = now (notices .entry) }) (take (r .taken) (rootsIn (now (roots .entry)))) ⌝ }
+    requires { ⌜ Going (now text) state (length (now calls)) (length (now notices)) ⌝ }
+    ensures { λ r. ⌜ ran r (now (calls .exit)) (now (notices .exit)) ≡ runTested (now (text .entry)) (record { state = state; calls = now (calls .entry); notices = now (notices .entry) }) (now (roots .entry)) ⌝ }
 {
     let mut last = state;
     let mut at = 0;
@@ -147,7 +146,7 @@ pub fn lower_list(
                 };
             }
             Ahead::Root(start, end) => {
-                let stepped = lower_one(text, last, &roots[start..end], calls, notices, 0 < taken);
+                let stepped = lower_tested(text, last, &roots[start..end], calls, notices);
                 let answer = stepped.answer;
                 last = stepped.state;
                 match answer {
@@ -165,5 +164,58 @@ pub fn lower_list(
                 }
             }
         }
+    }
+}
+
+// A list that is refused before its roots.
+fn list_refused(state: State, refusal: Refusal) -> Listed
+    ensures { λ r. ⌜ r ≡ record { answer = Refused refusal; state = state; taken = 0 } ⌝ }
+{
+    Listed {
+        answer: Answer::Refused(refusal),
+        state,
+        taken: 0,
+    }
+}
+
+// A text that is not too long and is UTF-8.
+fn lower_if_unforged(
+    text: &[u8],
+    state: State,
+    roots: &[u8],
+    calls: &mut [u8],
+    notices: &mut [u8],
+) -> Listed
+    requires { ⌜ length (now text) ≤ 65535 ⌝ }
+    requires { ⌜ firstIll (now text) ≡ Nothing ⌝ }
+    ensures { λ r. ⌜ ran r (now (calls .exit)) (now (notices .exit)) ≡ run (now (text .entry)) (record { state = state; calls = now (calls .entry); notices = now (notices .entry) }) (now (roots .entry)) ⌝ }
+{
+    if is_forged(text, state, calls.len(), notices.len()) {
+        return list_refused(state, Refusal::Forged);
+    }
+    lower_in_turn(text, state, roots, calls, notices)
+}
+
+// The roots of a list in turn, up to the first that is refused. Text and state are tested once, before the first of them and also where there is none.
+// Demand 3 holds of the roots that were taken over the state that an accepted opening gave.
+pub fn lower_list(
+    text: &[u8],
+    state: State,
+    roots: &[u8],
+    calls: &mut [u8],
+    notices: &mut [u8],
+) -> Listed
+    ensures { λ r. ⌜ r .answer ≡ run (now (text .entry)) (record { state = state; calls = now (calls .entry); notices = now (notices .entry) }) (now (roots .entry)) .answer ⌝ }
+    ensures { λ r. ⌜ r .taken ≡ run (now (text .entry)) (record { state = state; calls = now (calls .entry); notices = now (notices .entry) }) (now (roots .entry)) .taken ⌝ }
+    ensures { λ r. ⌜ record { state = r .state; calls = now (calls .exit); notices = now (notices .exit) } ≡ run (now (text .entry)) (record { state = state; calls = now (calls .entry); notices = now (notices .entry) }) (now (roots .entry)) .world ⌝ }
+    ensures { λ r. ⌜ record { state = r .state; calls = now (calls .exit); notices = now (notices .exit) } ≡ series (now (text .entry)) (record { state = state; calls = now (calls .entry); notices = now (notices .entry) }) (take (r .taken) (rootsIn (now (roots .entry)))) ⌝ }
+    ensures { λ r. ⌜ ((job : List ℕ) (s : Settings) → judgeOpening (now (text .entry)) job ≡ accepted s → state ≡ openState s → Kept (now (text .entry)) s (now (calls .entry)) (now (notices .entry)) (take (r .taken) (rootsIn (now (roots .entry))))) ⌝ }
+{
+    if 65535 < text.len() {
+        return list_refused(state, Refusal::TooLong);
+    }
+    match first_ill_formed(text) {
+        Found::At(place) => list_refused(state, Refusal::NotUtf8(place)),
+        Found::Nothing => lower_if_unforged(text, state, roots, calls, notices),
     }
 }

@@ -42,7 +42,7 @@ unfolding recordsBytes recordBytes
 records-length [] = refl
 records-length (r ∷ rs) = omega (arith, records-length rs)
 
-settings-length : (s : Settings) → length (settingsBytes s) ≡ 46
+pub settings-length : (s : Settings) → length (settingsBytes s) ≡ 46
 unfolding settingsBytes optionsBytes optionalBytes formBytes
 settings-length s = refl
 

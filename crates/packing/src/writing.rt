@@ -153,7 +153,8 @@ fn put_options(options: Options, out: &mut [u8]) -> usize
     put_optional(ts_pragma_frag, out, e)
 }
 
-fn put_settings(settings: Settings, out: &mut [u8]) -> usize
+// The settings' 46 bytes, from the target's front on.
+pub fn put_settings(settings: Settings, out: &mut [u8]) -> usize
     ensures { λ r. ⌜ Wrote (now (out .entry)) (now (out .exit)) 0 r (settingsBytes settings) ⌝ }
 {
     let options = settings.options;

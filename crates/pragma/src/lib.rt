@@ -1,7 +1,7 @@
 // What a pragma is: `Pragma` of jsx_impl.rs, its root and the number of parts behind it.
 ghost use mathlib.Core.Path.{_≡_};
 ghost use Rattle.definitions.specs.Pragmas.{defaultForm, isIdentifierStart, isIdentifierPart, isIdentifierName, isOneOf, isReservedWord, formWith, metaForm, formOf, formIn};
-ghost use Rattle.definitions.specs.Opening.{formUnder};
+ghost use Rattle.definitions.specs.Opening.{formUnder, overAsciiIn, ifClassic};
 ghost use Rattle.pragma.specs.Parts.{firstLength, partsBehind};
 use definitions::options::Form;
 use definitions::options::Mode;
@@ -9,6 +9,7 @@ use definitions::options::Optional;
 use definitions::options::PragmaRoot;
 use text::bytes::Found;
 use text::bytes::find_byte;
+use text::bytes::find_over_ascii;
 use text::bytes::same;
 use text::spans::part;
 
@@ -162,5 +163,31 @@ pub fn form_under(mode: Mode, text: &[u8], pragma: Optional) -> Form
         Mode::Module => default_form(),
         Mode::Script => default_form(),
         Mode::Classic => parse_no_ctx(text, pragma),
+    }
+}
+
+// The place of the first byte over 7F of a pragma.
+fn over_ascii_in(text: &[u8], pragma: Optional) -> Found
+    ensures { λ r. ⌜ r ≡ overAsciiIn (now (text .entry)) pragma ⌝ }
+{
+    match pragma {
+        Optional::Absent => Found::Nothing,
+        Optional::Present(span) => {
+            let Found::At(place) = find_over_ascii(part(text, span)) else {
+                return Found::Nothing;
+            };
+            Found::At(span.start as usize + place)
+        }
+    }
+}
+
+// The same in these bindings: only in classic ones a pragma is in force.
+pub fn over_ascii_under(mode: Mode, text: &[u8], pragma: Optional) -> Found
+    ensures { λ r. ⌜ r ≡ ifClassic mode (overAsciiIn (now (text .entry)) pragma) ⌝ }
+{
+    match mode {
+        Mode::Classic => over_ascii_in(text, pragma),
+        Mode::Module => Found::Nothing,
+        Mode::Script => Found::Nothing,
     }
 }

@@ -6,6 +6,7 @@ ghost use lib.ListN.{length};
 ghost use Rattle.tape.specs.Targets.{Wrote};
 ghost use Rattle.printing.specs.Lines.{hexDigit, hexOf, hexBytes, lineOf};
 use tape::target::put;
+use tape::target::put_slice;
 use tape::target::put_two;
 
 fn digit(n: u8) -> u8
@@ -39,23 +40,11 @@ fn put_bytes(bytes: &[u8], out: &mut [u8], at: usize) -> usize
     next
 }
 
-fn put_word(word: &[u8], out: &mut [u8]) -> usize
-    ensures { λ r. ⌜ Wrote (now (out .entry)) (now (out .exit)) 0 r (now (word .entry)) ⌝ }
-{
-    let mut i: usize = 0;
-    let mut next: usize = 0;
-    while i < word.len() {
-        next = put(out, next, word[i]);
-        i += 1;
-    }
-    next
-}
-
 // A word, its bytes and a line feed. The answer tells how long the line is; it is whole where the target has room for it.
 pub fn put_line(word: &[u8], bytes: &[u8], out: &mut [u8]) -> usize
     ensures { λ r. ⌜ Wrote (now (out .entry)) (now (out .exit)) 0 r (lineOf (now (word .entry)) (now (bytes .entry))) ⌝ }
 {
-    let worded = put_word(word, out);
+    let worded = put_slice(out, 0, word);
     let filled = put_bytes(bytes, out, worded);
     put(out, filled, 0x0a)
 }

@@ -25,14 +25,14 @@ use showing::say_refused;
 use store::module_imports::write_records;
 
 // The calls and notices of a root are what has come to their targets with it.
-fn show_part(word: &[u8], target: &[u8], from: usize, to: usize) {
+fn show_part(word: &[u8], target: &[u8], from: usize, to: usize, open: &mut bool) {
     if to <= target.len() {
         if from <= to {
-            say_line(word, &target[from..to]);
+            say_line(word, &target[from..to], open);
             return;
         }
     }
-    say(b"no part of the target\n");
+    say(b"no part of the target\n", open);
 }
 
 fn replay_root(
@@ -42,18 +42,19 @@ fn replay_root(
     root: &[u8],
     calls: &mut [u8],
     notices: &mut [u8],
+    open: &mut bool,
 ) -> State {
     let stepped = lower_root(text, before, root, calls, notices);
     let answer = stepped.answer;
     let after = stepped.state;
-    say(b"root ");
-    say_number(number);
+    say(b"root ", open);
+    say_number(number, open);
     match answer {
-        Answer::Refused(why) => say_refused(why),
+        Answer::Refused(why) => say_refused(why, open),
         Answer::Accepted => {
-            say(b" accepted\n");
-            show_part(b"calls", calls, before.calls, after.calls);
-            show_part(b"notices", notices, before.notices, after.notices);
+            say(b" accepted\n", open);
+            show_part(b"calls", calls, before.calls, after.calls, open);
+            show_part(b"notices", notices, before.notices, after.notices, open);
         }
     }
     after
@@ -67,31 +68,32 @@ fn replay_roots(
     tape: &mut [u8],
     calls: &mut [u8],
     notices: &mut [u8],
+    open: &mut bool,
 ) -> State {
     let mut state = opened;
     let mut number = 0;
     while number < count {
         let part = read_part(tape);
         if !part.whole {
-            say_cut();
+            say_cut(open);
             return state;
         }
         let size = part.size;
-        state = replay_root(number, text, state, &tape[0..size], calls, notices);
+        state = replay_root(number, text, state, &tape[0..size], calls, notices, open);
         number += 1;
     }
     state
 }
 
-fn show_records(text: &[u8], state: State) {
+fn show_records(text: &[u8], state: State, open: &mut bool) {
     let mut target = io::buffer();
     let written = write_records(text, state, &mut target);
     match written {
         Written::Refused(why) => {
-            say(b"records");
-            say_refused(why);
+            say(b"records", open);
+            say_refused(why, open);
         }
-        Written::Accepted(size) => show_part(b"records", &target, 0, size),
+        Written::Accepted(size) => show_part(b"records", &target, 0, size, open),
     }
 }
 
@@ -114,26 +116,27 @@ fn replay_job(
     tape: &mut [u8],
     calls: &mut [u8],
     notices: &mut [u8],
+    open: &mut bool,
 ) {
     let opened = open_job(text, job);
     let answer = opened.answer;
     let state = opened.state;
-    say(b"opening");
+    say(b"opening", open);
     match answer {
         Answer::Refused(why) => {
-            say_refused(why);
+            say_refused(why, open);
             pass_roots(count, tape);
         }
         Answer::Accepted => {
             let settings = state.settings;
-            show_settings(text, settings);
-            let last = replay_roots(text, state, count, tape, calls, notices);
-            show_records(text, last);
+            show_settings(text, settings, open);
+            let last = replay_roots(text, state, count, tape, calls, notices, open);
+            show_records(text, last, open);
         }
     }
 }
 
-// Whether there was a case.
+// Whether there was a case, and what comes out of it was written.
 fn replay_case(
     number: usize,
     job: &mut [u8],
@@ -141,6 +144,7 @@ fn replay_case(
     tape: &mut [u8],
     calls: &mut [u8],
     notices: &mut [u8],
+    open: &mut bool,
 ) -> bool {
     let job_part = read_part(job);
     if !job_part.whole {
@@ -153,9 +157,9 @@ fn replay_case(
     }
     let job_size = job_part.size;
     let text_size = text_part.size;
-    say(b"case ");
-    say_number(number);
-    say(b"\n");
+    say(b"case ", open);
+    say_number(number, open);
+    say(b"\n", open);
     replay_job(
         &job[0..job_size],
         &text[0..text_size],
@@ -163,8 +167,9 @@ fn replay_case(
         tape,
         calls,
         notices,
+        open,
     );
-    true
+    *open
 }
 
 // The target for notices is so small that it comes to be full.
@@ -174,6 +179,7 @@ fn main() {
     let mut tape = reading::tape();
     let mut calls = io::large_buffer();
     let mut notices = [0u8; 1024];
+    let mut open = true;
     let mut number = 0;
     while number < 0xffff_ffff {
         if !replay_case(
@@ -183,6 +189,7 @@ fn main() {
             &mut tape,
             &mut calls,
             &mut notices,
+            &mut open,
         ) {
             return;
         }

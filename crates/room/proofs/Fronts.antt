@@ -21,7 +21,8 @@ use Rattle.commands.specs.declared.root.ChildCommand.{ChildCommand}
 use Rattle.commands.specs.declared.root.ChildCommand.the-variants as child
 use Rattle.tape.specs.Numbers.{u16At}
 use Rattle.room.specs.Commands.{operandSize, textLength}
-use Rattle.room.proofs.Passing.{room, room-front}
+use Rattle.room.specs.Room.{room}
+use Rattle.room.proofs.Passing.{room-front}
 
 -- n bytes in front, with a text of l bytes, and the room of what is behind them are within the room of t
 abbrev pub Fronted : List ℕ → ℕ → ℕ → Type 0

@@ -1,7 +1,6 @@
 -- One pass over a tape, from command to command by their first bytes.
 --     texts             what the lengths of the texts come to that are met on the way
 --     texts-front       the command in front, and those behind it
---     room              four bytes for each of a tape and six for each of the texts met
 --     room-front        of a command that is whole, and what is behind it
 --     no-text, ..       the text at a place; texts-step, texts-end: from a place on
 -- Assumes nothing.
@@ -14,13 +13,7 @@ use lib.Seq.{drop-cons, drop-drop, getD-drop}
 use borrow.Author.Tests.{lt-ltb, le-ltb, eq-eqb, ne-eqb}
 use Rattle.tape.specs.Numbers.{u16At}
 use Rattle.room.specs.Commands.{operandSize, textLength}
-
--- the texts behind n bytes that are passed over
-unfoldable pub textsBehind : ℕ → List ℕ → ℕ
-textsBehind zero [] = 0
-textsBehind (suc n) [] = 0
-textsBehind zero (b ∷ t) = textLength (b ∷ t) + textsBehind (operandSize b) t
-textsBehind (suc n) (b ∷ t) = textsBehind n t
+use Rattle.room.specs.Room.{textsBehind, room}
 
 abbrev pub texts : List ℕ → ℕ
 texts t = textsBehind 0 t
@@ -34,9 +27,6 @@ behind-drop (suc n) (b ∷ t) = behind-drop n t
 pub texts-front : (b : ℕ) (t : List ℕ) → texts (b ∷ t) ≡ textLength (b ∷ t) + texts (drop (operandSize b) t)
 unfolding textsBehind
 texts-front b t = ap (λ (n : ℕ). textLength (b ∷ t) + n) (behind-drop (operandSize b) t)
-
-unfoldable pub room : List ℕ → ℕ
-room t = 4 * length t + 6 * texts t
 
 -- a command of the code k, with n bytes of operands that are there
 pub room-front : (b k n : ℕ) (t : List ℕ) → b ≡ k → operandSize k ≡ n → n ≤ length t → 4 + 4 * n + 6 * textLength (b ∷ t) + room (drop n t) ≤ room (b ∷ t)

@@ -2,15 +2,18 @@
 --     Costs               a reading's value is within the room of the bytes that it took
 --     name-costs, ..      of each reader
 --     calls-within        so a root's calls are within the room of its tape
+--     told-room, no-room  the room that is told, by the tape's length
+--     room-enough         and it holds them
 -- Assumes nothing.
-use mathlib.Core.Path.{_≡_, subst}
+use mathlib.Core.Path.{_≡_, refl, subst}
 use mathlib.Core.Bool.{Bool, true, false, cond, _||_}
 use mathlib.Core.List.{List, [], _∷_}
-use Prim.Native.Nat.{ℕ, zero, suc, _+_, _*_, _≤_}
+use Prim.Native.Nat.{ℕ, zero, suc, _+_, _*_, _≤_, _<_}
 use native.Mathlib.Omega.{arith}
 use lib.ListN.{length, drop}
 use lib.Seq.{drop-drop}
 use lib.Dec.{ltb}
+use borrow.Author.Tests.{lt-ltb, le-ltb}
 use Rattle.text.specs.declared.spans.Span.{Span}
 use Rattle.text.specs.Spans.{boundsOf}
 use Rattle.tape.specs.declared.refusal.Fault.the-variants as fault
@@ -42,7 +45,7 @@ use Rattle.definitions.specs.Lowering.{lowerRoot, canAddSelf}
 use Rattle.definitions.specs.Entries.{loweredAfter}
 use Rattle.definitions.proofs.Weights.{calls-weigh, node-weighs-by-texts, sizeName, sizeProperties, sizeNode, sizeAttributes, sizeValue, sizeChildren, pricedNode, pricedAttributes, pricedValue, pricedChildren}
 use Rattle.definitions.proofs.TreeSizes.{Told, tells, faults, told-then, told-map, told-from, told-spanned, told-named, told-lettered, told-opened, told-done}
-use Rattle.room.proofs.Passing.{room}
+use Rattle.room.specs.Room.{room, callRoom, HoldsCalls}
 use Rattle.room.proofs.Fronts.{Fronted, childText, heritage-front, scope-front, name-front, member-front, attribute-front, property-front, value-front, child-front}
 
 -- ---- what each part of a tree costs: four bytes for each of its own, and six for each of its texts
@@ -271,9 +274,20 @@ root-within text t =
     told-whole true r u e = faults
     told-whole false r u e = tells e
 
-pub calls-within : (text tape : List ℕ) (s : Settings) (js : List Import) (o : Root) (u : ℕ) → readRoot text tape ≡ done o u
+calls-within : (text tape : List ℕ) (s : Settings) (js : List Import) (o : Root) (u : ℕ) → readRoot text tape ≡ done o u
     → length (loweredAfter text s js o .calls) ≤ room tape
 unfolding loweredAfter lowerRoot
 calls-within text tape s js o u e =
     let h : costNode (o .node) ≤ room tape = told-done (root-within text tape) e in
     omega (arith, calls-weigh js (lowerRoot text s o), node-weighs-by-texts (record { text = text; settings = s; selfAllowed = canAddSelf o }) (o .node))
+
+pub told-room : (tape : List ℕ) → length tape ≤ 65535 → callRoom tape ≡ room tape
+unfolding callRoom
+told-room tape h = rw (le-ltb 65535 (length tape) h) refl
+
+pub no-room : (tape : List ℕ) → 65535 < length tape → callRoom tape ≡ 0
+unfolding callRoom
+no-room tape h = rw (lt-ltb 65535 (length tape) h) refl
+
+pub room-enough : (tape : List ℕ) → HoldsCalls tape (callRoom tape)
+room-enough tape text s js o u h e = rw (told-room tape h) (calls-within text tape s js o u e)

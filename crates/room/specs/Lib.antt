@@ -1,1 +1,3 @@
 pub mod Commands
+pub mod Room
+pub mod Examples

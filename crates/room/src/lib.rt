@@ -1,15 +1,9 @@
 // How much room a root's calls can take, told by one pass over its tape, so that a target with that much need not be measured first.
 ghost use mathlib.Core.Path.{_≡_};
-ghost use mathlib.Core.List.{List};
-ghost use Prim.Native.Nat.{ℕ, _≤_, _<_};
+ghost use Prim.Native.Nat.{_<_};
 ghost use lib.ListN.{length, drop};
-ghost use Rattle.definitions.specs.declared.options.Settings.{Settings};
-ghost use Rattle.definitions.specs.declared.records.Import.{Import};
-ghost use Rattle.definitions.specs.Judging.{done};
-ghost use Rattle.definitions.specs.Tree.{Root};
-ghost use Rattle.definitions.specs.Reading.{readRoot};
-ghost use Rattle.definitions.specs.Entries.{loweredAfter};
 ghost use Rattle.room.specs.Commands.{operandSize, textLength};
+ghost use Rattle.room.specs.Room.{callRoom, HoldsCalls};
 use tape::numbers::read_u16;
 
 // How many bytes of operands follow a code; 0 where it has none, or no command begins with it.
@@ -55,7 +49,8 @@ fn text_length(tape: &[u8], at: usize) -> u16
 
 // Four bytes for each of the tape and six for each of its texts': as much as the calls of the root can take, if it is one.
 pub fn call_room(tape: &[u8]) -> usize
-    ensures { λ r. ⌜ ((text : List ℕ) (s : Settings) (js : List Import) (o : Root) (u : ℕ) → length (now (tape .entry)) ≤ 65535 → readRoot text (now (tape .entry)) ≡ done o u → length (loweredAfter text s js o .calls) ≤ r) ⌝ }
+    ensures { λ r. ⌜ r ≡ callRoom (now (tape .entry)) ⌝ }
+    ensures { λ r. ⌜ HoldsCalls (now (tape .entry)) r ⌝ }
 {
     if 65535 < tape.len() {
         return 0;

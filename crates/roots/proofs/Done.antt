@@ -3,18 +3,15 @@
 --     map-done, from-done, then-done           readings put together
 --     named-is-done, .., opened-is-done        what was judged at a command
 --     root-is-done                             the root
---     properties-left-..                       the properties of a literal, one after the other
 -- Assumes nothing.
 use mathlib.Core.Path.{_≡_, refl, sym, ap, _∙_}
 use mathlib.Core.Bool.{Bool, true, false, cond, _||_}
-use mathlib.Core.List.{List, _∷_}
-use Prim.Native.Nat.{ℕ, zero, suc, _+_, _≤_, _<_}
+use mathlib.Core.List.{List}
+use Prim.Native.Nat.{ℕ, suc, _+_, _<_}
 use native.Mathlib.Omega.{arith}
-use lib.ListN.{length, drop, length-drop}
-use lib.Seq.{drop-drop}
+use lib.ListN.{length, drop}
 use lib.Dec.{eqb, leb, ltb}
 use borrow.Author.Tests.{eq-eqb, leb-false}
-use Rattle.text.proofs.Lists.{tail-part}
 use Rattle.text.specs.declared.spans.Span.{Span}
 use Rattle.text.specs.declared.spans.Bounds.{Bounds}
 use Rattle.text.specs.declared.spans.Bounds.the-variants.{Outside, Cuts, Empty, Good}
@@ -25,18 +22,13 @@ use Rattle.tape.specs.declared.refusal.Fault.the-variants as fault
 use Rattle.commands.specs.declared.root.Place.{Place}
 use Rattle.commands.specs.declared.root.HeritageCommand.{HeritageCommand}
 use Rattle.commands.specs.declared.root.HeritageCommand.the-variants as heritages
-use Rattle.commands.specs.declared.root.PropertyCommand.{PropertyCommand}
-use Rattle.commands.specs.declared.root.PropertyCommand.the-variants as properties
-use Rattle.commands.specs.Root.{heritageCommand, propertyCommand}
-use Rattle.commands.specs.Sizes.{propertySize}
-use Rattle.commands.proofs.Lengths.{property-fits}
+use Rattle.commands.specs.Root.{heritageCommand}
 use Rattle.definitions.specs.Judging.{Parsed, done, stop, _then_, map, from, spanned, named}
-use Rattle.definitions.specs.Tree.{Property, unnamed, propName, Root}
-use Rattle.definitions.specs.Reading.{ampersand, lettered, opened, propertiesBy, propertiesAt, scopesAt, rootBy, whole, readRoot}
+use Rattle.definitions.specs.Tree.{Root}
+use Rattle.definitions.specs.Reading.{ampersand, lettered, opened, scopesAt, rootBy, whole, readRoot}
 use Rattle.roots.specs.declared.check.Checked.the-variants as checks
 use Rattle.roots.specs.Checking.{checked}
 use Rattle.roots.specs.InOrder.{Placed}
-use Rattle.roots.proofs.Behind.{part}
 
 never : {A : Type 0} → _≡_ {A = ℕ} 0 1 → A
 never z = absurd (omega arith)
@@ -139,77 +131,3 @@ root-is-done text t r u e =
           n .2 ∙ ap (λ (x : Root). done (record { kinds = x .scopes; node = x .node }) (n .0)) (sym (m .1)),
           n .1,
         )
-
--- ---- the properties of a literal, one after the other
-
--- i bytes of them are passed: what is left reads, up to the place u
-pub record PropertiesLeft (text tape : List ℕ) (i u : ℕ) : Type 0 where
-  pub turns : ℕ
-  pub rest : List Property
-  pub size : ℕ
-  pub enough : length tape < i + turns
-  pub reads : propertiesAt turns text (drop i tape) ≡ done rest size
-  pub ends : u ≡ i + size
-
-pub properties-left-none : (f : ℕ) (text tape : List ℕ) (ps : List Property) (u : ℕ) → length tape < f → propertiesAt f text tape ≡ done ps u
-    → PropertiesLeft text tape 0 u
-properties-left-none f text tape ps u h e = record { turns = f; rest = ps; size = u; enough = omega arith; reads = e; ends = omega arith }
-
-module _ {text tape : List ℕ} {i u : ℕ} (inside : i ≤ length tape) (P : PropertiesLeft text tape i u) where
-  -- by the command that stands there
-  left-by : (c : PropertyCommand) → propertyCommand (part i tape) ≡ c
-      → (g : ℕ) × (length tape < i + suc g)
-      × (propertiesBy text (drop i tape) c (λ v. from v (propertiesAt g text (drop v (drop i tape)))) ≡ done (P .rest) (P .size))
-  unfolding propertiesAt
-  left-by c e = go (P .turns) (P .enough) (P .reads)
-    where
-      go : (g : ℕ) → length tape < i + g → propertiesAt g text (drop i tape) ≡ done (P .rest) (P .size)
-          → (g : ℕ) × (length tape < i + suc g)
-          × (propertiesBy text (drop i tape) c (λ v. from v (propertiesAt g text (drop v (drop i tape)))) ≡ done (P .rest) (P .size))
-      go zero h k = absurd (omega arith)
-      go (suc g) h k = (g, h, rw (← e, tail-part tape i) k)
-
-  -- one more, of n bytes
-  left-on : (n g : ℕ) (x : Property) → 1 ≤ n → length tape < i + suc g
-      → map (x ∷_) (from n (propertiesAt g text (drop n (drop i tape)))) ≡ done (P .rest) (P .size) → PropertiesLeft text tape (i + n) u
-  left-on n g x o h e =
-      let m = map-done (x ∷_) (from n (propertiesAt g text (drop n (drop i tape)))) e in
-      let k = from-done n (propertiesAt g text (drop n (drop i tape))) (m .2) in
-      record {
-        turns = g;
-        rest = m .0;
-        size = k .0;
-        enough = omega arith;
-        reads = ap (λ (l : List ℕ). propertiesAt g text l) (sym (drop-drop n i tape)) ∙ k .2;
-        ends = omega (arith, k .1, P .ends);
-      }
-
-  pub properties-left-property : (x : ℕ) → propertyCommand (part i tape) ≡ properties.Property x → PropertiesLeft text tape (i + 3) u
-  unfolding propertiesBy
-  properties-left-property x e = let y = left-by _ e in left-on 3 (y .0) (unnamed x) (omega arith) (y .1) (y .2)
-
-  pub properties-left-named : (x : ℕ) (s : Span) → propertyCommand (part i tape) ≡ properties.Named x s → PropertiesLeft text tape (i + 7) u
-  unfolding propertiesBy
-  properties-left-named x s e =
-      let y = left-by _ e in left-on 7 (y .0) (propName x s) (omega arith) (y .1) (spanned-is-done (boundsOf text s) (y .2))
-
-  pub properties-left-end : propertyCommand (part i tape) ≡ properties.End → i + 1 ≡ u
-  unfolding propertiesBy
-  properties-left-end e =
-      let y = left-by _ e .2 in
-      let z : 1 ≡ P .size = cc in
-      omega (arith, P .ends)
-
-  pub properties-left-wrong : propertyCommand (part i tape) ≡ properties.Wrong → ⊥
-  unfolding propertiesBy
-  properties-left-wrong e = let y = left-by _ e .2 in never cc
-
-  pub properties-left-cut : propertyCommand (part i tape) ≡ properties.Cut → ⊥
-  unfolding propertiesBy
-  properties-left-cut e = let y = left-by _ e .2 in never cc
-
--- how much of the tape is left for what stands there
-pub property-room : (tape : List ℕ) (i : ℕ) {c : PropertyCommand} → i ≤ length tape → propertyCommand (part i tape) ≡ c → i + propertySize c ≤ length tape
-property-room tape i h e =
-    let x : propertyCommand (drop i tape) ≡ _ = rw (tail-part tape i) at e in
-    omega (arith, property-fits (drop i tape) x, length-drop i tape)

@@ -8,3 +8,4 @@ pub mod Entry
 pub mod Codes
 pub mod Walking
 pub mod Done
+pub mod Literals

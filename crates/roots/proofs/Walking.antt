@@ -2,12 +2,14 @@
 -- walked over in as many bytes.
 --     Walk, Rest                 the walk, up to where nothing is open
 --     value-walked               a value at the front is what the walk passes
---     Ahead, ahead-..            a loop's invariant and its turns
+--     walk-passed                what the code passes is the walk
+--     value-skipped              what a contract says of how far it goes
+--     Passed, passed-..          a loop's invariant and its turns
 -- Assumes nothing.
-use mathlib.Core.Path.{_≡_, refl, sym, ap, subst, _∙_}
-use mathlib.Core.Bool.{Bool, true, false, cond, _||_}
+use mathlib.Core.Path.{_≡_, refl, sym, ap, _∙_}
+use mathlib.Core.Bool.{Bool, true, false, cond, _||_, or-true}
 use mathlib.Core.List.{List, _∷_}
-use Prim.Native.Nat.{ℕ, zero, suc, _+_, _-_, _≤_}
+use Prim.Native.Nat.{ℕ, zero, suc, _+_, _-_, _≤_, _<_}
 use native.Mathlib.Nat.{add-zero, zero-add, add-assoc}
 use native.Mathlib.Numerals.{sub-one}
 use native.Mathlib.Omega.{arith}
@@ -35,11 +37,12 @@ use Rattle.commands.specs.declared.root.ChildCommand.{ChildCommand}
 use Rattle.commands.specs.declared.root.ChildCommand.the-variants as children
 use Rattle.commands.specs.Root.{nameCommand, memberCommand, attributeCommand, propertyCommand, valueCommand, childCommand}
 use Rattle.commands.proofs.Lengths.{name-fits, member-fits, attribute-fits, property-fits, value-fits, child-fits}
-use lib.Dec.{eqb, leb}
+use lib.Dec.{eqb, leb, ltb}
+use borrow.Author.Tests.{lt-ltb, le-ltb, eq-eqb, ne-eqb, ltb-false}
 use Rattle.definitions.specs.Judging.{Parsed, done, stop, _then_, map, from, spanned, named}
 use Rattle.definitions.specs.Tree.{Property, Node, Attributes, Value, Children}
 use Rattle.definitions.specs.Reading.{ampersand, lettered, opened, membersBy, nameBy, propertiesBy, attributesBy, valueBy, childrenBy, membersAt, nameAt, propertiesAt, elementAt, fragmentAt, attributesAt, valueAt, childrenAt}
-use Rattle.roots.specs.Skipping.{sizesIn, sizeOf, openBehind}
+use Rattle.roots.specs.Skipping.{sizesIn, sizeOf, openBehind, passedBy, passedIn, valuePassed}
 use Rattle.roots.proofs.Codes.{member-coded, name-coded, property-coded, attribute-coded, value-coded, child-coded}
 
 -- ---- the walk
@@ -66,23 +69,6 @@ passes {n} {t} s zero w k e h =
     let z : s + w ≡ s = omega arith in
     rw z (last s k e)
 passes s (suc m) w k e h = more s m w k e h
-
--- ---- its first command, of which the size and the count behind it are known
-
-walk-stands : {n w : ℕ} {t : List ℕ} → Walk n t w → (1 ≤ sizeOf (getD t 0 0)) × (sizeOf (getD t 0 0) ≤ length t)
-walk-stands (last s k e) = omega (arith, k .size, k .some, k .fits)
-walk-stands (more s m v k e h) = omega (arith, k .size, k .some, k .fits)
-
-walk-last : {n w : ℕ} {t : List ℕ} → Walk n t w → openBehind (getD t 0 0) n ≡ 0 → w ≡ sizeOf (getD t 0 0)
-walk-last (last s k e) z = sym (k .size)
-walk-last (more s m v k e h) z = absurd (omega arith)
-
-walk-more : {n w : ℕ} {t : List ℕ} → Walk n t w → (m : ℕ) → openBehind (getD t 0 0) n ≡ m → (m ≡ 0 → ⊥)
-    → (v : ℕ) × (w ≡ sizeOf (getD t 0 0) + v) × Walk m (drop (sizeOf (getD t 0 0)) t) v
-walk-more (last s k e) m z q = absurd (q (sym z ∙ e))
-walk-more (more s i v k e h) m z q =
-    let x : suc i ≡ m = sym e ∙ z in
-    (v, omega (arith, k .size), rw (k .size, ← x) h)
 
 -- ---- readings that are walked over
 
@@ -309,16 +295,54 @@ value-walked f text d t v u e = go (valueAt f text d t) (value-walk f text d t 0
     go p (leads {a = x} {u = y} h) e = let z : y ≡ u = cc in rw (← z) (rw (add-zero y) at (h 0 refl))
     go p stops e = let z : _≡_ {A = ℕ} 0 1 = cc in absurd (omega arith)
 
+-- ---- how far the code goes
+
+-- the command in front is whole
+passed-front : (f n : ℕ) {m s : ℕ} {t : List ℕ} → Stands t s → openBehind (getD t 0 0) n ≡ m → passedIn (suc f) n t ≡ s + cond (eqb m 0) 0 (passedIn f m (drop s t))
+unfolding passedIn passedBy
+passed-front f n {m} {s} {t} k e = rw (k .size, e, ne-eqb s 0 (λ z. omega (arith, k .some)), le-ltb (length t) s (k .fits)) refl
+
+walk-passed : {n w : ℕ} {t : List ℕ} (f : ℕ) → Walk n t w → length t ≤ f → passedIn f n t ≡ w
+walk-passed zero (last s k e) g = absurd (omega (arith, k .some, k .fits))
+walk-passed zero (more s m w k e h) g = absurd (omega (arith, k .some, k .fits))
+walk-passed (suc f) (last s k e) g = passed-front f _ k e ∙ add-zero s
+walk-passed {t = t} (suc f) (more s m w k e h) g =
+    passed-front f _ k e ∙ rw (ne-eqb (suc m) 0 (λ z. omega arith)) (ap (λ (v : ℕ). s + v) (walk-passed f h (omega (arith, k .some, length-drop s t))))
+
+passed-within : (f n : ℕ) (t : List ℕ) → passedIn f n t ≤ length t
+unfolding passedIn passedBy
+passed-within zero n t = omega arith
+passed-within (suc f) n t =
+    let s = sizeOf (getD t 0 0) in
+    let m = openBehind (getD t 0 0) n in
+    go (eqb s 0) (ltb (length t) s) refl (eqb m 0) (passed-within f m (drop s t))
+  where
+    go : (a b : Bool) → ltb (length t) (sizeOf (getD t 0 0)) ≡ b → (c : Bool) {v : ℕ} → v ≤ length (drop (sizeOf (getD t 0 0)) t)
+        → cond (a || b) 0 (sizeOf (getD t 0 0) + cond c 0 v) ≤ length t
+    go true b e c h = omega arith
+    go false true e c h = omega arith
+    go false false e true h = omega (arith, ltb-false (length t) (sizeOf (getD t 0 0)) e)
+    go false false e false h = omega (arith, ltb-false (length t) (sizeOf (getD t 0 0)) e, length-drop (sizeOf (getD t 0 0)) t)
+
+pub value-skipped : (tape : List ℕ) {r : ℕ} → r ≡ valuePassed tape
+    → (r ≤ length tape)
+    × (((f : ℕ) (text : List ℕ) (d : ℕ) (v : Value) (u : ℕ) → length tape < f → valueAt f text d tape ≡ done v u → r ≡ u)
+    × (r ≡ valuePassed tape))
+value-skipped tape e = (
+  omega (arith, passed-within (length tape) 0 tape),
+  (λ f text d v u h g. e ∙ walk-passed (length tape) (value-walked f text d tape v u g) (omega arith), e),
+)
+
 -- ---- a loop over the tape
 
--- i bytes are passed and n are open: the walk goes on to the place u
-pub record Ahead (tape : List ℕ) (n i u : ℕ) : Type 0 where
-  pub left : ℕ
-  pub ends : u ≡ i + left
-  pub walk : Walk n (drop i tape) left
+-- i bytes are passed and n are open: what is passed of the tape is these, and what is passed behind them
+pub record Passed (tape : List ℕ) (n i : ℕ) : Type 0 where
+  pub turns : ℕ
+  pub enough : length tape ≤ i + turns
+  pub same : valuePassed tape ≡ i + passedIn turns n (drop i tape)
 
-pub ahead-none : (f : ℕ) (text : List ℕ) (d : ℕ) (tape : List ℕ) (v : Value) (u : ℕ) → valueAt f text d tape ≡ done v u → Ahead tape 0 0 u
-ahead-none f text d tape v u e = record { left = u; ends = sym (zero-add u); walk = value-walked f text d tape v u e }
+pub passed-none : (tape : List ℕ) → Passed tape 0 0
+passed-none tape = record { turns = length tape; enough = omega arith; same = sym (zero-add _) }
 
 -- the code at i, as the loop reads it
 code-at : (tape : List ℕ) (i : ℕ) → getD (drop i tape) 0 0 ≡ getD tape i 0
@@ -333,21 +357,54 @@ open-behind-le code n = go (eqb code 0x10 || eqb code 0x11) (eqb code 0x1f)
     go false true = omega arith
     go false false = omega arith
 
-module _ {tape : List ℕ} {n i u : ℕ} (A : Ahead tape n i u) {size : ℕ} (s : size ≡ sizeOf (getD tape i 0)) where
+module _ {tape : List ℕ} {n i : ℕ} (P : Passed tape n i) {size : ℕ} (s : size ≡ sizeOf (getD tape i 0)) where
   first-size : sizeOf (getD (drop i tape) 0 0) ≡ size
   first-size = ap sizeOf (code-at tape i) ∙ sym s
 
-  pub ahead-stands : (1 ≤ size) × (i + size ≤ length tape)
-  ahead-stands = omega (arith, walk-stands (A .walk), first-size, length-drop i tape)
+  -- no whole command stands at i
+  stops-here : (eqb size 0 || ltb (length (drop i tape)) size) ≡ true → i ≡ valuePassed tape
+  unfolding passedIn passedBy
+  stops-here e = go (P .turns) (P .same)
+    where
+      go : (g : ℕ) → valuePassed tape ≡ i + passedIn g n (drop i tape) → i ≡ valuePassed tape
+      go zero h = omega (arith, h)
+      go (suc g) h = omega (arith, rw (first-size, e) at h)
 
-  pub ahead-last : openBehind (getD tape i 0) n ≡ 0 → i + size ≡ u
-  ahead-last z = omega (arith, walk-last (A .walk) (ap (λ (x : ℕ). openBehind x n) (code-at tape i) ∙ z), first-size, A .ends)
+  pub passed-no-command : size ≡ 0 → i ≡ valuePassed tape
+  passed-no-command z = stops-here (rw (eq-eqb size 0 z) refl)
 
-  pub ahead-more : {m : ℕ} → m ≡ openBehind (getD tape i 0) n → (m ≡ 0 → ⊥) → Ahead tape m (i + size) u
-  ahead-more {m} e h =
-      let y = walk-more (A .walk) m (ap (λ (x : ℕ). openBehind x n) (code-at tape i) ∙ sym e) h in
-      record {
-        left = y .0;
-        ends = omega (arith, y .1, first-size, A .ends);
-        walk = subst (λ (l : List ℕ). Walk m l (y .0)) (drop-drop size i tape) (rw first-size at (y .2));
-      }
+  pub passed-cut : length tape - i < size → i ≡ valuePassed tape
+  passed-cut h = stops-here (rw (lt-ltb (length (drop i tape)) size (omega (arith, length-drop i tape)), or-true (eqb size 0)) refl)
+
+  module _ (some : size ≡ 0 → ⊥) (fits : size ≤ length tape - i) {m : ℕ} (opens : m ≡ openBehind (getD tape i 0) n) where
+    -- the turns that are left, and what is passed in them
+    onward : (g : ℕ) × (length tape ≤ i + size + g) × (valuePassed tape ≡ i + (size + cond (eqb m 0) 0 (passedIn g m (drop (i + size) tape))))
+    onward = go (P .turns) (P .enough) (P .same)
+      where
+        here : Stands (drop i tape) size
+        here = record { size = first-size; some = omega (arith, some); fits = omega (arith, length-drop i tape) }
+
+        go : (g : ℕ) → length tape ≤ i + g → valuePassed tape ≡ i + passedIn g n (drop i tape)
+            → (g : ℕ) × (length tape ≤ i + size + g) × (valuePassed tape ≡ i + (size + cond (eqb m 0) 0 (passedIn g m (drop (i + size) tape))))
+        go zero h e = absurd (some (omega arith))
+        go (suc g) h e = (
+          g,
+          omega (arith, some),
+          e
+              ∙ ap (λ (w : ℕ). i + w) (passed-front g n here (ap (λ (x : ℕ). openBehind x n) (code-at tape i) ∙ sym opens))
+              ∙ ap (λ (l : List ℕ). i + (size + cond (eqb m 0) 0 (passedIn g m l))) (drop-drop size i tape),
+        )
+
+    pub passed-last : m ≡ 0 → i + size ≡ valuePassed tape
+    passed-last z = omega (arith, rw (eq-eqb m 0 z) at (onward .2))
+
+    pub passed-more : (m ≡ 0 → ⊥) → Passed tape m (i + size)
+    passed-more z = record {
+      turns = onward .0;
+      enough = onward .1;
+      same = rw (ne-eqb m 0 z) at (onward .2) ∙ sym (add-assoc i size _);
+    }
+
+-- past the end nothing is passed
+pub passed-end : {tape : List ℕ} {n i : ℕ} → Passed tape n i → length tape ≤ i → i ≤ length tape → i ≡ valuePassed tape
+passed-end {tape} {n} {i} P h k = omega (arith, P .same, passed-within (P .turns) n (drop i tape), length-drop i tape)

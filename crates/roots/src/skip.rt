@@ -1,5 +1,5 @@
-// How far a value, or the properties of an object literal, reach on a tape that was checked. No text is looked at again, and nothing is nested: the
-// commands are passed one after the other.
+// How far a value, or the properties of an object literal, reach. On a tape that was checked that is what is read of them, though no text is looked at
+// again, and nothing is nested: the commands are passed one after the other.
 ghost use mathlib.Core.Path.{_≡_};
 ghost use mathlib.Core.List.{List};
 ghost use Prim.Native.Nat.{ℕ, _≤_, _<_, _^_};
@@ -7,7 +7,7 @@ ghost use lib.ListN.{length};
 ghost use Rattle.definitions.specs.Judging.{done};
 ghost use Rattle.definitions.specs.Tree.{Property, Value};
 ghost use Rattle.definitions.specs.Reading.{propertiesAt, valueAt};
-ghost use Rattle.roots.specs.Skipping.{sizeOf, openBehind};
+ghost use Rattle.roots.specs.Skipping.{sizeOf, openBehind, valuePassed, propertiesPassed};
 use commands::root::PropertyCommand;
 use commands::root::property_command_at;
 
@@ -64,11 +64,13 @@ fn open_behind(code: u8, levels: usize) -> usize
     levels
 }
 
-// How many bytes the value at the front of the tape takes, if one stands there that reads.
+// How many bytes the value at the front of the tape takes, if one stands there that reads; otherwise those up to where none is open, or no whole
+// command stands.
 pub fn skip_value(tape: &[u8]) -> usize
     ensures { λ r. ⌜ r ≤ length (now (tape .entry)) ⌝ }
     ensures { λ r. ⌜ ((f : ℕ) (text : List ℕ) (d : ℕ) (v : Value) (u : ℕ) → length (now (tape .entry)) < f →
         valueAt f text d (now (tape .entry)) ≡ done v u → r ≡ u) ⌝ }
+    ensures { λ r. ⌜ r ≡ valuePassed (now (tape .entry)) ⌝ }
 {
     let mut levels: usize = 0;
     let mut i: usize = 0;
@@ -90,11 +92,12 @@ pub fn skip_value(tape: &[u8]) -> usize
     i
 }
 
-// How many bytes the properties at the front of the tape take, with the 35 that ends them, if they read.
+// How many bytes the properties at the front of the tape take, with the 35 that ends them, if they read; otherwise those up to where none stands.
 pub fn skip_properties(tape: &[u8]) -> usize
     ensures { λ r. ⌜ r ≤ length (now (tape .entry)) ⌝ }
     ensures { λ r. ⌜ ((f : ℕ) (text : List ℕ) (ps : List Property) (u : ℕ) → length (now (tape .entry)) < f →
         propertiesAt f text (now (tape .entry)) ≡ done ps u → r ≡ u) ⌝ }
+    ensures { λ r. ⌜ r ≡ propertiesPassed (now (tape .entry)) ⌝ }
 {
     let mut i: usize = 0;
     loop {
@@ -106,15 +109,9 @@ pub fn skip_properties(tape: &[u8]) -> usize
             PropertyCommand::Named(_, _) => {
                 i = i + 7;
             }
-            PropertyCommand::End => {
-                return i + 1;
-            }
-            PropertyCommand::Wrong => {
-                return i;
-            }
-            PropertyCommand::Cut => {
-                return i;
-            }
+            PropertyCommand::End => return i + 1,
+            PropertyCommand::Wrong => return i,
+            PropertyCommand::Cut => return i,
         }
     }
 }

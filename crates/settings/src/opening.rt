@@ -6,7 +6,7 @@ ghost use lib.ListN.{length};
 ghost use Rattle.commands.specs.Opening.{optionCommand};
 ghost use Rattle.text.specs.Spans.{boundsOf};
 ghost use Rattle.definitions.specs.Judging as judging;
-ghost use Rattle.definitions.specs.Opening.{bare, readOpening, overAsciiIn, ifClassic, pragmasChecked};
+ghost use Rattle.definitions.specs.Opening.{bare, readOpening, pragmasChecked};
 ghost use Rattle.definitions.specs.Entries.{openedBy, opened};
 ghost use Rattle.settings.specs.Tapes.{optionsBefore, withGiven, spannedBy, nextBy, judgedOptions, judgedBy, behindFlags, stateWith, openedTape};
 use crate::jsx_impl::new;
@@ -17,7 +17,6 @@ use commands::opening::OptionCommand;
 use commands::opening::flags_command_at;
 use commands::opening::option_command_at;
 use comments::update_options_with_comments;
-use definitions::options::Mode;
 use definitions::options::Optional;
 use definitions::options::Options;
 use definitions::options::Settings;
@@ -26,13 +25,12 @@ use definitions::records::Record;
 use definitions::state::Answer;
 use definitions::state::State;
 use definitions::state::Stepped;
+use pragma::over_ascii_under;
 use tape::refusal::Fault;
 use tape::refusal::Refusal;
 use text::bytes::Found;
-use text::bytes::find_over_ascii;
 use text::spans::Bounds;
 use text::spans::Span;
-use text::spans::part;
 use text::spans::span_bounds;
 use text::utf8::first_ill_formed;
 
@@ -193,31 +191,6 @@ fn accepted(settings: Settings) -> Stepped
     Stepped {
         answer: Answer::Accepted,
         state: state,
-    }
-}
-
-// The place of the first byte over 7F of a pragma that is in force.
-fn over_ascii_in(text: &[u8], pragma: Optional) -> Found
-    ensures { λ r. ⌜ r ≡ overAsciiIn (now (text .entry)) pragma ⌝ }
-{
-    match pragma {
-        Optional::Absent => Found::Nothing,
-        Optional::Present(span) => {
-            let Found::At(place) = find_over_ascii(part(text, span)) else {
-                return Found::Nothing;
-            };
-            Found::At(span.start as usize + place)
-        }
-    }
-}
-
-fn over_ascii_under(mode: Mode, text: &[u8], pragma: Optional) -> Found
-    ensures { λ r. ⌜ r ≡ ifClassic mode (overAsciiIn (now (text .entry)) pragma) ⌝ }
-{
-    match mode {
-        Mode::Classic => over_ascii_in(text, pragma),
-        Mode::Module => Found::Nothing,
-        Mode::Script => Found::Nothing,
     }
 }
 

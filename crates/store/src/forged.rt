@@ -6,7 +6,8 @@ ghost use mathlib.Core.List.{[]};
 ghost use Prim.Native.Nat.{_≤_};
 ghost use lib.ListN.{take};
 ghost use Rattle.definitions.specs.Store.{sourceOf, canName, canImport, canRequire, canBind};
-ghost use Rattle.definitions.specs.States.{inOrder, borneOut, spansBorneOut, rootNumber, sameForm, formsBorneOut, sound, overfilled};
+ghost use Rattle.definitions.specs.Opening.{formUnder, overAsciiIn, ifClassic};
+ghost use Rattle.definitions.specs.States.{inOrder, borneOut, spansBorneOut, rootNumber, sameForm, formBorneOut, formsBorneOut, sound, overfilled};
 ghost use Rattle.store.specs.Following.{following};
 use definitions::options::Form;
 use definitions::options::Mode;
@@ -18,7 +19,9 @@ use definitions::records::Import;
 use definitions::records::Record;
 use definitions::state::State;
 use pragma::form_under;
+use pragma::over_ascii_under;
 use records::finding::number_in;
+use text::bytes::Found;
 use text::spans::Bounds;
 use text::spans::span_bounds;
 
@@ -79,6 +82,16 @@ fn same_form(f: Form, g: Form) -> bool
     (root_number(a) == root_number(b)) & (f.tail == g.tail)
 }
 
+// Whether the text bears out the form of a pragma: it does for none that has a byte over 7F, since no opening takes it.
+fn form_borne_out(text: &[u8], mode: Mode, pragma: Optional, form: Form) -> bool
+    ensures { λ r. ⌜ r ≡ formBorneOut (ifClassic mode (overAsciiIn (now (text .entry)) pragma)) form (formUnder mode (now (text .entry)) pragma) ⌝ }
+{
+    match over_ascii_under(mode, text, pragma) {
+        Found::At(_) => false,
+        Found::Nothing => same_form(form, form_under(mode, text, pragma)),
+    }
+}
+
 fn forms_borne_out(text: &[u8], settings: Settings) -> bool
     ensures { λ r. ⌜ r ≡ formsBorneOut (now (text .entry)) settings ⌝ }
 {
@@ -88,8 +101,7 @@ fn forms_borne_out(text: &[u8], settings: Settings) -> bool
     let pragma_frag = options.pragma_frag;
     let form = settings.pragma;
     let form_frag = settings.pragma_frag;
-    same_form(form, form_under(mode, text, pragma))
-        & same_form(form_frag, form_under(mode, text, pragma_frag))
+    form_borne_out(text, mode, pragma, form) & form_borne_out(text, mode, pragma_frag, form_frag)
 }
 
 // ---- the records

@@ -1,2 +1,3 @@
 pub mod Targets
 pub mod ReadBack
+pub mod Filling

@@ -2,7 +2,7 @@
 // target) and writes.
 ghost use mathlib.Core.Path.{_≡_};
 ghost use mathlib.Core.List.{[], _∷_};
-ghost use Prim.Native.Nat.{_+_};
+ghost use Prim.Native.Nat.{_+_, _≤_, _^_};
 ghost use lib.Dec.{leb};
 ghost use Rattle.tape.specs.Numbers.{u16Bytes, u32Bytes, spanBytes};
 ghost use Rattle.tape.specs.Targets.{Wrote};
@@ -87,4 +87,18 @@ pub fn put_span(out: &mut [u8], at: usize, s: Span) -> usize
         (s.len % 256) as u8,
         (s.len / 256) as u8,
     )
+}
+
+// All of a slice.
+pub fn put_slice(out: &mut [u8], at: usize, bytes: &[u8]) -> usize
+    requires { ⌜ at ≤ 2 ^ 63 ⌝ }
+    ensures { λ r. ⌜ Wrote (now (out .entry)) (now (out .exit)) at r (now (bytes .entry)) ⌝ }
+{
+    let mut next = at;
+    let mut i: usize = 0;
+    while i < bytes.len() {
+        next = put(out, next, bytes[i]);
+        i += 1;
+    }
+    next
 }

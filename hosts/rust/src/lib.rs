@@ -19,12 +19,15 @@ compile_error!("libjsxlib.a is compiled for x86-64 Linux");
 mod lists;
 mod raw;
 mod refusal;
+mod resolved;
 mod settings;
 mod target;
 mod workspace;
 
 use lists::{behind, put_list, roots_in, too_long};
 pub use refusal::{JobRefusal, Refusal, RootRefusal};
+use resolved::SETTINGS_SIZE;
+pub use resolved::{Mode, PragmaForm, PragmaRoot, ResolvedSettings};
 pub use settings::{Settings, Span};
 use target::Target;
 pub use workspace::{Output, Workspace};
@@ -111,12 +114,9 @@ impl<'t> Job<'t> {
         })
     }
 
-    // Room for all that roots of this size can give, so that each is lowered in one pass: by the library's figure, which is asked for only where there is less
-    // than roots take whose texts don't overlap. Beyond the limit no room is made; the figure of a refusal then says what is wanted.
+    // Room for all that roots of this size can give.
     fn make_room(&mut self, size: usize, call_room: impl FnOnce() -> usize) {
-        if self.calls.free(self.limit) < 4 * size + 6 * self.text.len() {
-            let _ = self.calls.make_room(call_room(), self.limit);
-        }
+        self.calls.make_room_for(size, self.text.len(), call_room, self.limit);
         let _ = self.notices.make_room(size, self.limit);
     }
 
@@ -171,16 +171,20 @@ impl<'t> Job<'t> {
 
     /// The record tape: the imports, requires and file name that the calls so far mention.
     pub fn records(&self) -> Result<Vec<u8>, Refusal> {
-        let mut tape = vec![0; 32];
-        let size = match raw::records(self.text, &self.state, &mut tape) {
-            Err(Refusal::Space { needed }) => {
-                tape.resize(needed, 0);
-                raw::records(self.text, &self.state, &mut tape)?
-            }
-            outcome => outcome?,
-        };
-        tape.truncate(size);
-        Ok(tape)
+        fitted(|target| raw::records(self.text, &self.state, target))
+    }
+
+    /// The settings as they stand after the comments, and the sources of imports as text.
+    pub fn settings(&self) -> Result<ResolvedSettings, Refusal> {
+        let mut bytes = [0; SETTINGS_SIZE];
+        raw::settings(self.text, &self.state, &mut bytes)?;
+        Ok(ResolvedSettings::read(&bytes, self.source(0)?, self.source(1)?))
+    }
+
+    fn source(&self, number: u8) -> Result<String, Refusal> {
+        let bytes = fitted(|target| raw::source(self.text, &self.state, number, target))?;
+        // the library has tested that the text is UTF-8 and that no span cuts a character
+        Ok(String::from_utf8_lossy(&bytes).into_owned())
     }
 
     /// The calls of all roots so far.
@@ -207,4 +211,18 @@ impl<'t> Job<'t> {
     pub fn state(&self) -> &[u8; STATE_SIZE] {
         &self.state
     }
+}
+
+// What an entry writes that tells how much room it wants.
+fn fitted(write: impl Fn(&mut [u8]) -> Result<usize, Refusal>) -> Result<Vec<u8>, Refusal> {
+    let mut target = vec![0; 32];
+    let size = match write(&mut target) {
+        Err(Refusal::Space { needed }) => {
+            target.resize(needed, 0);
+            write(&mut target)?
+        }
+        outcome => outcome?,
+    };
+    target.truncate(size);
+    Ok(target)
 }

@@ -66,6 +66,25 @@ extern "C" {
         notice_fill: *mut usize,
         figure: *mut usize,
     ) -> u8;
+    fn jsx_settings(
+        text: *const u8,
+        text_len: usize,
+        state: *const u8,
+        state_len: usize,
+        target: *mut u8,
+        target_len: usize,
+        figure: *mut usize,
+    ) -> u8;
+    fn jsx_source(
+        text: *const u8,
+        text_len: usize,
+        state: *const u8,
+        state_len: usize,
+        source: u8,
+        target: *mut u8,
+        target_len: usize,
+        figure: *mut usize,
+    ) -> u8;
     fn jsx_fills(state: *const u8, state_len: usize, calls: *mut usize, notices: *mut usize) -> u8;
     fn jsx_call_room(tape: *const u8, tape_len: usize) -> usize;
 }
@@ -152,6 +171,45 @@ pub fn records(text: &[u8], state: &[u8; STATE_SIZE], target: &mut [u8]) -> Resu
             text.len(),
             state.as_ptr(),
             state.len(),
+            target.as_mut_ptr(),
+            target.len(),
+            &mut figure,
+        )
+    };
+    Refusal::told(number, figure).map(|()| figure)
+}
+
+pub fn settings(text: &[u8], state: &[u8; STATE_SIZE], target: &mut [u8]) -> Result<(), Refusal> {
+    let mut figure = 0;
+    let number = unsafe {
+        jsx_settings(
+            text.as_ptr(),
+            text.len(),
+            state.as_ptr(),
+            state.len(),
+            target.as_mut_ptr(),
+            target.len(),
+            &mut figure,
+        )
+    };
+    Refusal::told(number, figure)
+}
+
+// How many bytes the text of the source with this number has.
+pub fn source(
+    text: &[u8],
+    state: &[u8; STATE_SIZE],
+    source: u8,
+    target: &mut [u8],
+) -> Result<usize, Refusal> {
+    let mut figure = 0;
+    let number = unsafe {
+        jsx_source(
+            text.as_ptr(),
+            text.len(),
+            state.as_ptr(),
+            state.len(),
+            source,
             target.as_mut_ptr(),
             target.len(),
             &mut figure,

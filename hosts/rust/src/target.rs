@@ -55,6 +55,24 @@ impl Target {
         Ok(())
     }
 
+    // Room for the calls of roots of `size` bytes over a text of `text` bytes, so that each is lowered in one pass. The library's figure takes a pass over the tapes, so
+    // it is asked for only where there is less than roots take whose texts don't overlap; where the limit allows it as much is made, so that the next roots of this
+    // size need not ask. Beyond the limit no room is made; the figure of a refusal then says what is wanted.
+    pub fn make_room_for(
+        &mut self,
+        size: usize,
+        text: usize,
+        call_room: impl FnOnce() -> usize,
+        limit: usize,
+    ) {
+        let usual = 4 * size + 6 * text;
+        if self.free(limit) < usual {
+            let bound = call_room();
+            let made = self.make_room(bound.max(usual), limit);
+            let _ = made.or_else(|_| self.make_room(bound, limit));
+        }
+    }
+
     pub fn into_written(mut self) -> Vec<u8> {
         self.bytes.truncate(self.filled);
         self.bytes

@@ -86,13 +86,11 @@ impl Workspace {
         }
     }
 
-    // As in `Job`: by the library's figure, where there is less than roots take whose texts don't overlap.
     fn make_room(&mut self, text: &[u8]) {
-        if self.calls.free(self.limit) < 4 * self.list.len() + 6 * text.len() {
-            let bound = roots_in(&self.list).map(raw::call_room).sum();
-            let _ = self.calls.make_room(bound, self.limit);
-        }
-        let _ = self.notices.make_room(self.list.len(), self.limit);
+        let (size, list) = (self.list.len(), &self.list);
+        let bound = || roots_in(list).map(raw::call_room).sum();
+        self.calls.make_room_for(size, text.len(), bound, self.limit);
+        let _ = self.notices.make_room(size, self.limit);
     }
 
     // The room that a root asks for behind those before it, which are lowered again with it.

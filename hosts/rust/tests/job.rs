@@ -1,5 +1,6 @@
 // The specification's example, its refusals, and states that nobody made.
-use jsx_lowering::{Job, JobRefusal, Refusal, RootRefusal, Settings, Span, Workspace};
+use jsx_lowering::{Job, JobRefusal, Mode, PragmaForm, PragmaRoot};
+use jsx_lowering::{Refusal, RootRefusal, Settings, Span, Workspace};
 
 // <a/>, <b key/> and so on: an element at line 0, column 0, in a function
 fn root(rest: &[u8]) -> Vec<u8> {
@@ -310,4 +311,93 @@ fn refusals_in_words() {
     let told = Job::open(b"a\xff", &[0x61, 0, 0]).unwrap_err();
     assert_eq!(told.number(), 2);
     assert_eq!(told.to_string(), "the text is not UTF-8: an ill-formed sequence begins at byte 1");
+}
+
+// ---- settings after comments
+
+fn span(start: u16, len: u16) -> Option<Span> {
+    Some(Span { start, len })
+}
+
+#[test]
+fn settings_after_comments() {
+    let text = b"@jsxRuntime classic @jsx h.x @jsxImportSource preact";
+    let comment = Span { start: 0, len: text.len() as u16 };
+    let settings =
+        Settings { jsx_plugin: true, module: true, comments: vec![comment], ..Settings::default() };
+    let resolved = Job::open(text, &settings.tape()).unwrap().settings().unwrap();
+    let options = Settings {
+        classic: true,
+        pragma: span(25, 3),
+        import_source: span(46, 6),
+        comments: Vec::new(),
+        ..settings
+    };
+    assert_eq!(resolved.options, options);
+    assert_eq!((resolved.mode, resolved.pure), (Mode::Classic, false));
+    assert_eq!((resolved.ts_pragma, resolved.ts_pragma_frag), (span(25, 3), None));
+    assert_eq!(resolved.pragma, PragmaForm { root: PragmaRoot::Identifier, members: 1 });
+    assert_eq!(resolved.pragma_frag, PragmaForm { root: PragmaRoot::Default, members: 0 });
+    assert_eq!(resolved.import_source(), "preact");
+    assert_eq!(resolved.runtime_source(), "preact/jsx-runtime");
+}
+
+#[test]
+fn sources_of_a_development_job() {
+    let settings = Settings { module: true, development: true, ..Settings::default() };
+    let resolved = Job::open(b"", &settings.tape()).unwrap().settings().unwrap();
+    assert_eq!(resolved.mode, Mode::Module);
+    assert_eq!(resolved.import_source(), "react");
+    assert_eq!(resolved.runtime_source(), "react/jsx-dev-runtime");
+}
+
+// longer than the room that is offered first
+#[test]
+fn a_long_source() {
+    let text = "é".repeat(32_000);
+    let whole = span(0, text.len() as u16);
+    let settings = Settings { module: true, import_source: whole, ..Settings::default() };
+    let resolved = Job::open(text.as_bytes(), &settings.tape()).unwrap().settings().unwrap();
+    assert_eq!(resolved.import_source(), text);
+    assert_eq!(resolved.runtime_source(), text + "/jsx-runtime");
+}
+
+#[test]
+fn settings_of_another_text() {
+    let settings = Settings { module: true, import_source: span(0, 6), ..Settings::default() };
+    let state = *Job::open(b"preact", &settings.tape()).unwrap().state();
+    let job = Job::resume(b"short", &state, Vec::new(), Vec::new()).unwrap();
+    assert_eq!(job.settings().unwrap_err(), Refusal::Forged);
+}
+
+// ---- lists without roots
+
+const NONE: [&[u8]; 0] = [];
+
+// a list judges its text and its state, also where it has no root
+#[test]
+fn no_roots() {
+    let mut job = open(b"a");
+    assert!(job.lower_roots(&NONE).is_ok());
+    let mut forged = *job.state();
+    // more records than there are places
+    forged[78] = 9;
+    let refused = |refusal| Err(RootRefusal { index: 0, refusal });
+    let lowered = |text, state: &[u8]| {
+        let mut job = Job::resume(text, state, Vec::new(), Vec::new()).unwrap();
+        job.lower_roots(&NONE).map(|_| ())
+    };
+    assert_eq!(lowered(b"a", &forged), refused(Refusal::Forged));
+    assert_eq!(lowered(b"a\xc3", job.state()), refused(Refusal::NotUtf8 { at: 1 }));
+}
+
+// no opening gives a classic job a pragma with a byte over 7F
+#[test]
+fn a_pragma_over_ascii() {
+    let settings = Settings { classic: true, ..Settings::default() };
+    let mut state = *Job::open("é".as_bytes(), &settings.tape()).unwrap().state();
+    state[1..6].copy_from_slice(&[1, 0, 0, 2, 0]);
+    let mut job = Job::resume("é".as_bytes(), &state, Vec::new(), Vec::new()).unwrap();
+    assert_eq!(job.lower_roots(&NONE).unwrap_err().refusal, Refusal::Forged);
+    assert_eq!(job.records().unwrap_err(), Refusal::Forged);
 }

@@ -41,7 +41,7 @@ tell-records-requires c κs = search needs
 returns : tie.Need-returns
 returns c =
     let a = (c .before .before .before .before .before .before .before .before .before .before .before .before .args) in
-    job-is
+    job-is (now (a .text)) (now (a .job)) (now (a .roots)) (now (a .calls)) (now (a .notices)) (now (a .records))
     (opening-refused (now (a .text)) (now (a .job)) (now (a .roots)) (now (a .calls)) (now (a .notices)) (now (a .records)) _ ((c .before .before .before .before .before .open-job) .ensures) ((c .before .before .enum-told) .given .1)
     ((c .number-by) .ensures) ((c .before .figure-by) .ensures))
 
@@ -55,7 +55,7 @@ returns-2 : tie.Need-returns-2
 returns-2 c =
     let a = (c .before .before .before .before .before .before .before .before .before .before .before .before .before .before .before .before .before .before .before .before .before .before .args) in
     let l = (c .before .before .before .before .before .before .before .before .before .lower-list) .ensures in
-    job-is
+    job-is (now (a .text)) (now (a .job)) (now (a .roots)) (now (a .calls)) (now (a .notices)) (now (a .records))
     (root-refused (now (a .text)) (now (a .job)) (now (a .roots)) (now (a .calls)) (now (a .notices)) (now (a .records)) _ ((c .before .before .before .before .before .before .before .before .before .before .before .before .before .before .before .open-job) .ensures) ((c .before .before .before .before .before .before .before .before .before .before .before .before .enum-told2) .given .1)
     (l .0) (l .1 .0) (l .1 .1 .0) ((c .before .before .enum-told3) .given .1) ((c .number-by2) .ensures) ((c .before .figure-by2) .ensures))
 
@@ -73,7 +73,7 @@ returns-3 c =
     let a = (c .before .before .before .before .before .before .before .before .before .before .before .before .before .before .before .before .before .before .before .before .before .before .before .before .before .args) in
     let l = (c .before .before .before .before .before .before .before .before .before .before .before .before .lower-list) .ensures in
     let t = (c .before .before .tell-records) .ensures in
-    job-is
+    job-is (now (a .text)) (now (a .job)) (now (a .roots)) (now (a .calls)) (now (a .notices)) (now (a .records))
     (job-done (now (a .text)) (now (a .job)) (now (a .roots)) (now (a .calls)) (now (a .notices)) (now (a .records)) _ ((c .before .before .before .before .before .before .before .before .before .before .before .before .before .before .before .before .before .before .open-job) .ensures) ((c .before .before .before .before .before .before .before .before .before .before .before .before .before .before .before .enum-told2) .given .1)
     (l .0) (l .1 .0) (l .1 .1 .0) ((c .before .before .before .before .before .enum-told4) .given .1) (t .0) (t .1 .0) (t .1 .1))
 

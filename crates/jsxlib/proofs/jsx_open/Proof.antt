@@ -1,4 +1,6 @@
+use denote.Ref.{now}
 use borrow.Author.Needs.{needs}
+use Rattle.jsxlib.proofs.Hosting.{opening-hosted}
 use Rattle.jsxlib.proofs.jsx_open.Statement.{statement}
 use Rattle.jsxlib.proofs.jsx_open.Tie as tie
 
@@ -18,7 +20,12 @@ same-length : tie.Need-same-length
 same-length c = search needs
 
 returns : tie.Need-returns
-returns c = (rw ((c .before .before .settle) .ensures .0, (c .before .before .before .before .before .answer-in) .ensures, (c .before .before .before .before .before .before .before .open-job) .ensures), (rw ((c .before .before .before .before .figure-by) .ensures, (c .before .before .before .before .before .answer-in) .ensures, (c .before .before .before .before .before .before .before .open-job) .ensures), rw ((c .before .before .settle) .ensures .1, (c .before .before .before .before .before .answer-in) .ensures, (c .before .before .before .before .before .before .before .open-job) .ensures)))
+returns c =
+    let o = (c .before .before .before .before .before .before .before .open-job) .ensures in
+    let i = (c .before .before .before .before .before .answer-in) .ensures in
+    let s = (c .before .before .settle) .ensures in
+    let a = (c .before .before .before .before .before .before .before .before .before .before .before .args) in
+    (rw (s .0, i, o), (rw ((c .before .before .before .before .figure-by) .ensures, i, o), (rw (s .1, i, o), opening-hosted (now (a .text)) (now (a .job)) (now (a .state)) o i (s .1))))
 
 pub jsx-open-spec : {M : Type 1} → statement M
 jsx-open-spec =

@@ -2,8 +2,8 @@ use borrow.Author.Needs.{needs}
 use Rattle.jsxlib.proofs.jsx_records.Statement.{statement}
 use Rattle.jsxlib.proofs.jsx_records.Tie as tie
 
-unpack-requires : tie.Need-unpack-requires
-unpack-requires c κs = search needs
+state-from-requires : tie.Need-state-from-requires
+state-from-requires c κs = search needs
 
 tell-records-requires : tie.Need-tell-records-requires
 tell-records-requires c κs = search needs
@@ -14,8 +14,8 @@ same-length c = search needs
 returns : tie.Need-returns
 returns c =
     let t = (c .before .before .tell-records) .ensures in
-    let u = (c .before .before .before .before .before .before .unpack) .ensures in
+    let u = (c .before .before .before .before .before .state-from) .ensures in
     (rw (t .0, u), (rw (t .1 .0, u), rw (t .1 .1, u)))
 
 pub jsx-records-spec : {M : Type 1} → statement M
-jsx-records-spec = tie.close (tie.spec unpack-requires tell-records-requires same-length returns)
+jsx-records-spec = tie.close (tie.spec state-from-requires tell-records-requires same-length returns)

@@ -2,8 +2,8 @@ use borrow.Author.Needs.{needs}
 use Rattle.jsxlib.proofs.jsx_root.Statement.{statement}
 use Rattle.jsxlib.proofs.jsx_root.Tie as tie
 
-unpack-requires : tie.Need-unpack-requires
-unpack-requires c κs = search needs
+state-from-requires : tie.Need-state-from-requires
+state-from-requires c κs = search needs
 
 lower-root-requires : tie.Need-lower-root-requires
 lower-root-requires c κs = search needs
@@ -24,13 +24,17 @@ same-length-3 : tie.Need-same-length-3
 same-length-3 c = search needs
 
 returns : tie.Need-returns
-returns c = (rw ((c .before .before .settle) .ensures .0, (c .before .before .before .before .before .before .before .before .before .before .lower-root) .ensures .0, (c .before .before .before .before .before .before .before .before .before .before .before .before .before .before .unpack) .ensures), (rw ((c .before .before .before .before .figure-by) .ensures, (c .before .before .before .before .before .before .before .before .before .before .lower-root) .ensures .0, (c .before .before .before .before .before .before .before .before .before .before .before .before .before .before .unpack) .ensures), (rw ((c .before .before .settle) .ensures .1, (c .before .before .before .before .before .before .before .before .before .before .lower-root) .ensures .0, (c .before .before .before .before .before .before .before .before .before .before .before .before .before .before .unpack) .ensures), (rw ((c .before .before .before .before .before .before .before .before .before .before .lower-root) .ensures .1 .0, (c .before .before .before .before .before .before .before .before .before .before .before .before .before .before .unpack) .ensures), rw ((c .before .before .before .before .before .before .before .before .before .before .lower-root) .ensures .1 .1, (c .before .before .before .before .before .before .before .before .before .before .before .before .before .before .unpack) .ensures)))))
+returns c =
+    let u = (c .before .before .before .before .before .before .before .before .before .before .before .before .before .state-from) .ensures in
+    let l = (c .before .before .before .before .before .before .before .before .before .before .lower-root) .ensures in
+    let s = (c .before .before .settle) .ensures in
+    (rw (s .0, l .0, u), (rw ((c .before .before .before .before .figure-by) .ensures, l .0, u), (rw (s .1, l .0, u), (rw (l .1 .0, u), rw (l .1 .1, u)))))
 
 pub jsx-root-spec : {M : Type 1} → statement M
 jsx-root-spec =
     tie.close
     (tie.spec
-    unpack-requires
+    state-from-requires
     lower-root-requires
     figure-by-requires
     settle-requires

@@ -4,8 +4,8 @@ use Rattle.definitions.specs.Series.{World}
 use Rattle.jsxlib.proofs.jsx_roots.Statement.{statement}
 use Rattle.jsxlib.proofs.jsx_roots.Tie as tie
 
-unpack-requires : tie.Need-unpack-requires
-unpack-requires c κs = search needs
+state-from-requires : tie.Need-state-from-requires
+state-from-requires c κs = search needs
 
 lower-list-requires : tie.Need-lower-list-requires
 lower-list-requires c κs = search needs
@@ -30,7 +30,7 @@ same-length-3 c = search needs
 
 returns : tie.Need-returns
 returns c =
-    let u = (c .before .before .before .before .before .before .before .before .before .before .before .before .before .before .before .unpack) .ensures in
+    let u = (c .before .before .before .before .before .before .before .before .before .before .before .before .before .before .state-from) .ensures in
     let l = (c .before .before .before .before .before .before .before .before .before .before .before .lower-list) .ensures in
     let w = l .1 .1 .0 in (
       rw ((c .number-by) .ensures, l .0, u),
@@ -50,7 +50,7 @@ pub jsx-roots-spec : {M : Type 1} → statement M
 jsx-roots-spec =
     tie.close
     (tie.spec
-    unpack-requires
+    state-from-requires
     lower-list-requires
     figure-by-requires
     keep-requires

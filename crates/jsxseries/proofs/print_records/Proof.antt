@@ -1,7 +1,6 @@
-use Prim.Native.Nat.{_-_}
 use native.Mathlib.Omega.{arith}
 use borrow.Author.Needs.{needs}
-use Rattle.jsxseries.proofs.Runs.{records-within, few}
+use Rattle.jsxseries.proofs.Runs.{records-within}
 use Rattle.jsxseries.proofs.print_records.Statement.{statement}
 use Rattle.jsxseries.proofs.print_records.Tie as tie
 
@@ -33,13 +32,22 @@ part-print-line-start : tie.Need-part-print-line-start
 part-print-line-start c = search needs
 
 part-print-line-end : tie.Need-part-print-line-end
-part-print-line-end c = omega (arith, records-within ((c .before .before .before .before .before .before .before .before .before .before .args) .text .now) ((c .before .before .before .before .before .before .before .before .before .before .args) .state) _ _ _ ((c .before .before .before .before .before .before .write-records) .ensures .0) ((c .before .before .before .n) .given .1), (c .before .before .before .before .before .before .write-records) .kept .1 .1 .0)
+part-print-line-end c =
+    let wrote = c .before .before .before .before .before .before .write-records in
+    let a = c .before .before .before .before .before .before .before .before .before .before .before .args in
+    omega (arith, records-within (a .text .now) (a .state) _ _ _ (wrote .ensures .0) ((c .before .before .before .n) .given .1), wrote .kept .1 .1 .0)
 
 print-line-requires : tie.Need-print-line-requires
 print-line-requires c κs = search needs
 
+same-length : tie.Need-same-length
+same-length c = search needs
+
 returns : tie.Need-returns
 returns c = search needs
+
+same-length-2 : tie.Need-same-length-2
+same-length-2 c = search needs
 
 returns-2 : tie.Need-returns-2
 returns-2 c = search needs
@@ -59,5 +67,7 @@ print-records-spec =
     part-print-line-start
     part-print-line-end
     print-line-requires
+    same-length
     returns
+    same-length-2
     returns-2)

@@ -1,4 +1,3 @@
-use Prim.Native.Nat.{_-_}
 use borrow.Author.Needs.{needs}
 use Rattle.jsxseries.proofs.Runs.{job-fresh}
 use Rattle.jsxseries.proofs.run_job.Statement.{statement}
@@ -17,10 +16,18 @@ enum-told : tie.Need-enum-told
 enum-told c = search needs
 
 run-roots-requires : tie.Need-run-roots-requires
-run-roots-requires c κs = job-fresh ((c .before .before .before .before .before .before .args) .job .now) ((c .before .before .before .before .before .before .args) .text .now) _ ((c .before .before .before .open-job) .ensures) ((c .enum-told) .given .1)
+run-roots-requires c κs =
+    let a = c .before .before .before .before .before .before .before .before .args in
+    job-fresh (a .job .now) (a .text .now) _ (c .before .before .before .before .open-job .ensures) (c .before .enum-told .given .1)
+
+same-length : tie.Need-same-length
+same-length c = search needs
 
 returns : tie.Need-returns
 returns c = search needs
+
+same-length-2 : tie.Need-same-length-2
+same-length-2 c = search needs
 
 returns-2 : tie.Need-returns-2
 returns-2 c = search needs
@@ -34,5 +41,7 @@ run-job-spec =
     print-refusal-requires
     enum-told
     run-roots-requires
+    same-length
     returns
+    same-length-2
     returns-2)

@@ -1,7 +1,5 @@
-use Prim.Native.Nat.{_-_}
-use native.Mathlib.Omega.{arith}
 use borrow.Author.Needs.{needs}
-use Rattle.jsxtape.proofs.Ending.{parts, few}
+use Rattle.jsxtape.proofs.Ending.{parts}
 use Rattle.jsxtape.proofs.print_ended.Statement.{statement}
 use Rattle.jsxtape.proofs.print_ended.Tie as tie
 
@@ -24,10 +22,16 @@ part-print-line-start : tie.Need-part-print-line-start
 part-print-line-start c = search needs
 
 part-print-line-end : tie.Need-part-print-line-end
-part-print-line-end c = parts ((c .before .before .before .before .before .before .before .args) .ended) _ _ _ ((c .before .before .ended2) .given .1) ((c .before .before .before .before .before .before .before .pre) .0) ((c .before .before .before .before .before .before .before .pre) .1) .0
+part-print-line-end c = parts ((c .before .before .before .before .before .before .before .before .args) .ended) _ _ _ ((c .before .before .ended2) .given .1) ((c .before .before .before .before .before .before .before .before .pre) .0) ((c .before .before .before .before .before .before .before .before .pre) .1) .0
 
 print-line-requires : tie.Need-print-line-requires
 print-line-requires c κs = search needs
+
+same-length : tie.Need-same-length
+same-length c = search needs
+
+returns : tie.Need-returns
+returns c = search needs
 
 slice-aggregate-print-line-2 : tie.Need-slice-aggregate-print-line-2
 slice-aggregate-print-line-2 c = search needs
@@ -39,10 +43,16 @@ part-print-line-start-2 : tie.Need-part-print-line-start-2
 part-print-line-start-2 c = search needs
 
 part-print-line-end-2 : tie.Need-part-print-line-end-2
-part-print-line-end-2 c = parts ((c .before .before .before .before .before .before .before .before .before .before .args) .ended) _ _ _ ((c .before .before .before .before .before .ended2) .given .1) ((c .before .before .before .before .before .before .before .before .before .before .pre) .0) ((c .before .before .before .before .before .before .before .before .before .before .pre) .1) .1
+part-print-line-end-2 c = parts ((c .before .before .before .before .before .before .before .before .before .before .before .before .before .before .before .args) .ended) _ _ _ ((c .before .before .before .before .before .before .before .before .before .ended2) .given .1) ((c .before .before .before .before .before .before .before .before .before .before .before .before .before .before .before .pre) .0) ((c .before .before .before .before .before .before .before .before .before .before .before .before .before .before .before .pre) .1) .1
 
 print-line-requires-2 : tie.Need-print-line-requires-2
 print-line-requires-2 c κs = search needs
+
+same-length-2 : tie.Need-same-length-2
+same-length-2 c = search needs
+
+returns-2 : tie.Need-returns-2
+returns-2 c = search needs
 
 slice-aggregate-print-line-3 : tie.Need-slice-aggregate-print-line-3
 slice-aggregate-print-line-3 c = search needs
@@ -54,16 +64,22 @@ part-print-line-start-3 : tie.Need-part-print-line-start-3
 part-print-line-start-3 c = search needs
 
 part-print-line-end-3 : tie.Need-part-print-line-end-3
-part-print-line-end-3 c = parts ((c .before .before .before .before .before .before .before .before .before .before .before .before .before .args) .ended) _ _ _ ((c .before .before .before .before .before .before .before .before .ended2) .given .1) ((c .before .before .before .before .before .before .before .before .before .before .before .before .before .pre) .0) ((c .before .before .before .before .before .before .before .before .before .before .before .before .before .pre) .1) .2
+part-print-line-end-3 c = parts ((c .before .before .before .before .before .before .before .before .before .before .before .before .before .before .before .before .before .before .before .before .before .before .args) .ended) _ _ _ ((c .before .before .before .before .before .before .before .before .before .before .before .before .before .before .before .before .ended2) .given .1) ((c .before .before .before .before .before .before .before .before .before .before .before .before .before .before .before .before .before .before .before .before .before .before .pre) .0) ((c .before .before .before .before .before .before .before .before .before .before .before .before .before .before .before .before .before .before .before .before .before .before .pre) .1) .2
 
 print-line-requires-3 : tie.Need-print-line-requires-3
 print-line-requires-3 c κs = search needs
 
-returns : tie.Need-returns
-returns c = search needs
+same-length-3 : tie.Need-same-length-3
+same-length-3 c = search needs
 
-returns-2 : tie.Need-returns-2
-returns-2 c = search needs
+returns-3 : tie.Need-returns-3
+returns-3 c = search needs
+
+same-length-4 : tie.Need-same-length-4
+same-length-4 c = search needs
+
+returns-4 : tie.Need-returns-4
+returns-4 c = search needs
 
 pub print-ended-spec : {M : Type 1} → statement M
 print-ended-spec =
@@ -77,15 +93,21 @@ print-ended-spec =
     part-print-line-start
     part-print-line-end
     print-line-requires
+    same-length
+    returns
     slice-aggregate-print-line-2
     sub-print-line-2
     part-print-line-start-2
     part-print-line-end-2
     print-line-requires-2
+    same-length-2
+    returns-2
     slice-aggregate-print-line-3
     sub-print-line-3
     part-print-line-start-3
     part-print-line-end-3
     print-line-requires-3
-    returns
-    returns-2)
+    same-length-3
+    returns-3
+    same-length-4
+    returns-4)

@@ -17,7 +17,7 @@ sub-if2 : tie.Need-sub-if2
 sub-if2 c = c .before .before .before .before .before .before .before .before .pre .unforged .notices-within
 
 write-requires : tie.Need-write-requires
-write-requires c κs = (c .before .before .before .before .before .before .before .before .before .before .before .pre, surely-fits (c .before .before .before .before .before .before .before .before .before .before .before .pre) (c .before .before .before .before .before .before .call-room .ensures) (c .before .before .before .before .if1 .taken) (c .before .before .if2 .taken))
+write-requires c κs = (c .before .before .before .before .before .before .before .before .before .before .before .pre, surely-fits (c .before .before .before .before .before .before .before .before .before .before .before .pre) (c .before .before .before .before .before .before .call-room .ensures .1) (c .before .before .before .before .if1 .taken) (c .before .before .if2 .taken))
 
 same-length : tie.Need-same-length
 same-length c = search needs

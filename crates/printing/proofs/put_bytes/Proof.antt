@@ -1,5 +1,6 @@
 use Rattle.printing.specs.Lines.{hexBytes}
-use Rattle.printing.proofs.Filling.{Filled, filled-start, filled-next, filled-end, hex-snoc}
+use Rattle.tape.proofs.Filling.{Filled, filled-start, filled-next, filled-end}
+use Rattle.printing.proofs.Filling.{hex-snoc}
 use borrow.Author.Needs.{needs}
 use Prim.Native.Nat.{ℕ, suc, _≤_, _<_, _+_, _-_}
 use native.Mathlib.Omega.{arith}

@@ -9,14 +9,13 @@ use Rattle.printing.proofs.put_line.Tie as tie
 use Rattle.printing.proofs.put_line.Reads as reads
 use Rattle.printing.proofs.put_line.Lts as lts
 use Rattle.printing.proofs.put_bytes.Reads as put-bytes-reads
-use Rattle.printing.proofs.put_word.Reads as put-word-reads
 use Rattle.tape.proofs.target.put.Reads as put-reads
 
-put-word-requires : tie.Need-put-word-requires
-put-word-requires c κs = search needs
+put-slice-requires : tie.Need-put-slice-requires
+put-slice-requires c κs = search needs
 
 put-bytes-requires : tie.Need-put-bytes-requires
-put-bytes-requires c κs = wrote-small ((c .before .before .before .put-word) .ensures)
+put-bytes-requires c κs = wrote-small ((c .before .before .before .put-slice) .ensures)
 
 put-requires : tie.Need-put-requires
 put-requires c κs = search needs
@@ -25,8 +24,8 @@ same-length : tie.Need-same-length
 same-length c = search needs
 
 returns : tie.Need-returns
-returns c = wrote-then (omega (arith, (c .before .before .before .before .before .before .before .before .before .before .before .before .before .before .before))) (wrote-then (omega (arith, (c .before .before .before .before .before .before .before .before .before .before .before .before .before .before .before))) ((c .before .before .before .before .before .before .before .before .before .before .put-word) .ensures) ((c .before .before .before .before .before .before .put-bytes) .ensures)) ((c .before .before .put) .ensures)
+returns c = wrote-then (omega (arith, (c .before .before .before .before .before .before .before .before .before .before .before .before .before .before .before))) (wrote-then (omega (arith, (c .before .before .before .before .before .before .before .before .before .before .before .before .before .before .before))) ((c .before .before .before .before .before .before .before .before .before .before .put-slice) .ensures) ((c .before .before .before .before .before .before .put-bytes) .ensures)) ((c .before .before .put) .ensures)
 
 pub put-line-spec : {M : Type 1} → statement M
 put-line-spec =
-    tie.close (tie.spec put-word-requires put-bytes-requires put-requires same-length returns)
+    tie.close (tie.spec put-slice-requires put-bytes-requires put-requires same-length returns)

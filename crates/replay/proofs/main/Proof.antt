@@ -6,10 +6,10 @@ use Rattle.replay.proofs.main.Statement.{statement}
 use Rattle.replay.proofs.main.Tie as tie
 
 abbrev Inv-loop : tie.InvT-loop
-Inv-loop job₀ text₀ tape₀ calls₀ notices₀ number₀ job text tape calls notices number = (number ≤ 0xffffffff) × (length job ≡ 131072) × (length text ≡ 131072) × (length tape ≡ 131072) × (length calls ≡ 65536) × (length notices ≡ 1024)
+Inv-loop job₀ text₀ tape₀ calls₀ notices₀ open₀ number₀ job text tape calls notices opened number = (number ≤ 0xffffffff) × (length job ≡ 131072) × (length text ≡ 131072) × (length tape ≡ 131072) × (length calls ≡ 65536) × (length notices ≡ 1024)
 
 abbrev μ-loop : tie.MeasureT-loop
-μ-loop job₀ text₀ tape₀ calls₀ notices₀ number₀ job text tape calls notices number = 0xffffffff - number
+μ-loop job₀ text₀ tape₀ calls₀ notices₀ open₀ number₀ job text tape calls notices opened number = 0xffffffff - number
 
 tape-requires : tie.Need-tape-requires Inv-loop μ-loop
 tape-requires c κs = search needs

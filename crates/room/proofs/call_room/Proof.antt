@@ -1,12 +1,13 @@
 -- What was counted and what is ahead are the texts of the whole tape; the room is that of proofs/Rooms.
-use mathlib.Core.Path.{_≡_}
+use mathlib.Core.Path.{_≡_, sym}
 use Prim.Native.Nat.{_+_, _*_, _-_, _≤_}
 use native.Mathlib.Omega.{arith}
 use native.Mathlib.Nat.{zero-add}
 use lib.ListN.{length, drop}
 use borrow.Author.Needs.{needs}
-use Rattle.room.proofs.Passing.{texts, texts-step, texts-end, room}
-use Rattle.room.proofs.Rooms.{calls-within}
+use Rattle.room.specs.Room.{room, callRoom}
+use Rattle.room.proofs.Passing.{texts, texts-step, texts-end}
+use Rattle.room.proofs.Rooms.{told-room, no-room, room-enough}
 use Rattle.room.proofs.call_room.Statement.{statement}
 use Rattle.room.proofs.call_room.Tie as tie
 
@@ -17,7 +18,7 @@ abbrev μ-loop : tie.MeasureT-loop
 μ-loop tape at₀ texts₀ at met = length tape - at
 
 returns : tie.Need-returns Inv-loop μ-loop
-returns c = λ text s js o u h e. omega arith
+returns c = (sym (no-room _ (c .if1 .taken)), λ text s js o u h e. omega arith)
 
 loop-holds : tie.Need-loop-holds Inv-loop μ-loop
 loop-holds c = (zero-add _, omega arith, omega arith)
@@ -67,10 +68,11 @@ add-result c = omega arith
 
 returns-2 : tie.Need-returns-2 Inv-loop μ-loop
 unfolding room
-returns-2 c = λ text s js o u h e.
+returns-2 c =
     let tape = c .before .before .before .before .args .tape .now in
     let l = c .before .loop in
-    omega (arith, calls-within text tape s js o u e, texts-end tape (l .at) (c .loop-test .left), l .inv .0)
+    let e : 4 * length tape + 6 * l .texts ≡ callRoom tape = omega (arith, told-room tape (c .before .before .if1 .left), texts-end tape (l .at) (c .loop-test .left), l .inv .0) in
+    (e, rw e (room-enough tape))
 
 pub call-room-spec : {M : Type 1} → statement M
 call-room-spec =

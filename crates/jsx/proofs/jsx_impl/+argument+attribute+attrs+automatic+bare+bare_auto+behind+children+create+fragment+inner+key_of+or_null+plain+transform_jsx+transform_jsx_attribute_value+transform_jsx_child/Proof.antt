@@ -496,7 +496,7 @@ attribute-passed-requires : (t : ℕ) → attribute-lts.Need-passed-requires (at
 attribute-passed-requires t c κs = search needs
 
 attribute-returns-2 : (t : ℕ) → attribute-lts.Need-returns-2 (attribute-claims t) (attribute-at t) attribute.Post
-attribute-returns-2 t c = (passed-moves ((c .before .before .before .before .before .before .before .before .before .before .before .before .before .before .before .args) .tape .now) ((c .passed) .result) ((c .passed) .ensures) (attribute-fits _ (told ((c .before .before .before .before .before .before .before .before .before .before .attribute-command-at) .ensures) ((c .before .before .before .before .before .before .before .before .command) .given .1))) ((c .before .skip-value) .ensures .0), plain-passed _ _ ((c .before .before .before .before .before .before .before .before .before .before .before .before .before .before .before .args) .tape .now) _ (told ((c .before .before .before .before .before .before .before .before .before .before .attribute-command-at) .ensures) ((c .before .before .before .before .before .before .before .before .command) .given .1)) _ ((c .before .before .before .before .before .is-valued-key) .ensures) _ ((c .passed) .ensures) ((c .before .before .before .before .if1) .taken) ((c .before .before .before .if2) .left) (attribute-fits _ (told ((c .before .before .before .before .before .before .before .before .before .before .attribute-command-at) .ensures) ((c .before .before .before .before .before .before .before .before .command) .given .1))) ((c .before .skip-value) .ensures .1))
+attribute-returns-2 t c = (passed-moves ((c .before .before .before .before .before .before .before .before .before .before .before .before .before .before .before .args) .tape .now) ((c .passed) .result) ((c .passed) .ensures) (attribute-fits _ (told ((c .before .before .before .before .before .before .before .before .before .before .attribute-command-at) .ensures) ((c .before .before .before .before .before .before .before .before .command) .given .1))) ((c .before .skip-value) .ensures .0), plain-passed _ _ ((c .before .before .before .before .before .before .before .before .before .before .before .before .before .before .before .args) .tape .now) _ (told ((c .before .before .before .before .before .before .before .before .before .before .attribute-command-at) .ensures) ((c .before .before .before .before .before .before .before .before .command) .given .1)) _ ((c .before .before .before .before .before .is-valued-key) .ensures) _ ((c .passed) .ensures) ((c .before .before .before .before .if1) .taken) ((c .before .before .before .if2) .left) (attribute-fits _ (told ((c .before .before .before .before .before .before .before .before .before .before .attribute-command-at) .ensures) ((c .before .before .before .before .before .before .before .before .command) .given .1))) ((c .before .skip-value) .ensures .1 .0))
 
 attribute-plain-requires-2 : (t : ℕ) → attribute-lts.Need-plain-requires-2 (attribute-claims t) (attribute-at t) attribute.Post
 attribute-plain-requires-2 t c κs = (omega (arith, (c .before .before .before .before .before .before .before .before .before .before .before .before .before .pre) .0), ((c .before .before .before .before .before .before .before .before .before .before .before .before .before .pre) .1 .0, ((c .before .before .before .before .before .before .before .before .before .before .before .before .before .pre) .1 .1, attribute-fits _ (told ((c .before .before .before .before .before .before .before .before .attribute-command-at) .ensures) ((c .before .before .before .before .before .before .command) .given .1)))))

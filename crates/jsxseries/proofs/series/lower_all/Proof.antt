@@ -1,57 +1,88 @@
 use borrow.Author.Needs.{needs}
-use Rattle.jsxseries.proofs.Runs.{ran-none, ran-next, root-size}
-use Rattle.jsxseries.specs.Running.{world, Ran}
-use Prim.Native.Nat.{_≤_, _-_}
+use Prim.Native.Nat.{_≤_}
 use native.Mathlib.Omega.{arith}
 use mathlib.Core.Path.{_≡_, refl, _∙_}
 use lib.ListN.{length}
+use Rattle.jsxseries.specs.Running.{world, Fits}
+use Rattle.jsxseries.proofs.Runs.{left-fits}
 use Rattle.jsxseries.proofs.series.lower_all.Statement.{statement}
 use Rattle.jsxseries.proofs.series.lower_all.Tie as tie
 
 abbrev Inv-loop : tie.InvT-loop
-Inv-loop fd text calls₀ notices₀ root₀ held₀ turns₀ calls notices root held turns = (65536 ≤ length root) × (length calls ≡ length calls₀) × (length notices ≡ length notices₀) × Ran text (world held₀ calls₀ notices₀) (world held calls notices)
+Inv-loop fd text calls₀ notices₀ line₀ buffer₀ held₀ turns₀ calls notices line buffer held turns =
+    (65537 ≤ length buffer) × (length calls ≡ length calls₀) × (length notices ≡ length notices₀) × (length line ≡ length line₀)
+    × Fits (world held calls notices)
 
 abbrev μ-loop : tie.MeasureT-loop
-μ-loop fd text calls₀ notices₀ root₀ held₀ turns₀ calls notices root held turns = turns
+μ-loop fd text calls₀ notices₀ line₀ buffer₀ held₀ turns₀ calls notices line buffer held turns = turns
 
-large-buffer-requires : tie.Need-large-buffer-requires Inv-loop μ-loop
-large-buffer-requires c κs = search needs
-
-slice-aggregate-root : tie.Need-slice-aggregate-root Inv-loop μ-loop
-slice-aggregate-root c = search needs
+slice-aggregate-buffer : tie.Need-slice-aggregate-buffer Inv-loop μ-loop
+slice-aggregate-buffer c = search needs
 
 loop-holds : tie.Need-loop-holds Inv-loop μ-loop
-loop-holds c = (omega arith, refl, refl, ran-none _ _)
+loop-holds c = (omega arith, refl, refl, refl, (c .before .before .before .before .before .pre))
 
 read-root-requires : tie.Need-read-root-requires Inv-loop μ-loop
 read-root-requires c κs = (c .before .before .loop) .inv .0
+
+sub-lower-read : tie.Need-sub-lower-read Inv-loop μ-loop
+sub-lower-read c = search needs
+
+part-lower-read-start : tie.Need-part-lower-read-start Inv-loop μ-loop
+part-lower-read-start c = search needs
+
+part-lower-read-end : tie.Need-part-lower-read-end Inv-loop μ-loop
+part-lower-read-end c = search needs
+
+lower-read-requires : tie.Need-lower-read-requires Inv-loop μ-loop
+lower-read-requires c κs = search needs
+
+enum-known-first : tie.Need-enum-known-first Inv-loop μ-loop
+enum-known-first c = search needs
 
 enum-told : tie.Need-enum-told Inv-loop μ-loop
 enum-told c = search needs
 
 same-length : tie.Need-same-length Inv-loop μ-loop
-same-length c = (c .before .before .before .before .before .before .before .before .loop) .inv .1
+same-length c =
+    let inv = c .before .before .before .before .before .before .before .before .before .before .before .before .before .before .before .before .before .before .loop .inv in
+    c .before .before .before .before .before .before .before .before .lower-read .kept .1 .1 .1 .0 ∙ inv .1
 
 same-length-2 : tie.Need-same-length-2 Inv-loop μ-loop
-same-length-2 c = (c .before .before .before .before .before .before .before .before .loop) .inv .2
+same-length-2 c =
+    let inv = c .before .before .before .before .before .before .before .before .before .before .before .before .before .before .before .before .before .before .loop .inv in
+    c .before .before .before .before .before .before .before .before .lower-read .kept .1 .1 .1 .1 .0 ∙ inv .2
+
+same-length-3 : tie.Need-same-length-3 Inv-loop μ-loop
+same-length-3 c = (c .before .before .before .before .before .before .before .before .before .before .before .before .before .before .before .before .before .before .loop) .inv .3
 
 returns : tie.Need-returns Inv-loop μ-loop
-returns c = (c .before .before .before .before .before .before .before .before .loop) .inv .3
+returns c =
+    let read = c .before .before .before .before .before .before .before .before .lower-read in
+    left-fits _ _ _ (read .ensures .1) (c .before .before .before .before .before .before .before .before .before .before .before .before .before .before .before .before .before .before .loop .inv .4)
 
-enum-known-n : tie.Need-enum-known-n Inv-loop μ-loop
-enum-known-n c = search needs
+print-answer-requires : tie.Need-print-answer-requires Inv-loop μ-loop
+print-answer-requires c κs = search needs
 
-sub-lower-one : tie.Need-sub-lower-one Inv-loop μ-loop
-sub-lower-one c = search needs
+same-length-4 : tie.Need-same-length-4 Inv-loop μ-loop
+same-length-4 c =
+    let inv = c .before .before .before .before .before .before .before .before .before .before .before .before .before .before .before .before .before .before .before .before .before .before .before .before .loop .inv in
+    c .before .before .before .before .before .before .before .before .before .before .before .before .before .before .lower-read .kept .1 .1 .1 .0 ∙ inv .1
 
-part-lower-one-start : tie.Need-part-lower-one-start Inv-loop μ-loop
-part-lower-one-start c = search needs
+same-length-5 : tie.Need-same-length-5 Inv-loop μ-loop
+same-length-5 c =
+    let inv = c .before .before .before .before .before .before .before .before .before .before .before .before .before .before .before .before .before .before .before .before .before .before .before .before .loop .inv in
+    c .before .before .before .before .before .before .before .before .before .before .before .before .before .before .lower-read .kept .1 .1 .1 .1 .0 ∙ inv .2
 
-part-lower-one-end : tie.Need-part-lower-one-end Inv-loop μ-loop
-part-lower-one-end c = omega (arith, root-size _ _ ((c .before .before .n) .given .1) ((c .before .before .before .before .before .before .read-root) .ensures), (c .before .before .before .before .before .before .before .before .before .loop) .inv .0, (c .before .before .before .before .before .before .read-root) .kept .1 .0)
+same-length-6 : tie.Need-same-length-6 Inv-loop μ-loop
+same-length-6 c =
+    let inv = c .before .before .before .before .before .before .before .before .before .before .before .before .before .before .before .before .before .before .before .before .before .before .before .before .loop .inv in
+    c .before .before .before .before .print-answer .kept .1 .0 ∙ inv .3
 
-lower-one-requires : tie.Need-lower-one-requires Inv-loop μ-loop
-lower-one-requires c κs = search needs
+returns-2 : tie.Need-returns-2 Inv-loop μ-loop
+returns-2 c =
+    let read = c .before .before .before .before .before .before .before .before .before .before .before .before .before .before .lower-read in
+    left-fits _ _ _ (read .ensures .1) (c .before .before .before .before .before .before .before .before .before .before .before .before .before .before .before .before .before .before .before .before .before .before .before .before .loop .inv .4)
 
 sub-turns : tie.Need-sub-turns Inv-loop μ-loop
 sub-turns c = search needs
@@ -60,16 +91,27 @@ loop-less : tie.Need-loop-less Inv-loop μ-loop
 loop-less c = search needs
 
 loop-again : tie.Need-loop-again Inv-loop μ-loop
-loop-again c = (omega (arith, (c .before .before .before .before .before .before .before .before .before .before .before .before .before .before .before .before .before .loop) .inv .0, (c .before .before .before .before .before .before .before .before .before .before .before .before .before .before .read-root) .kept .1 .0), (c .before .before .before .before .lower-one) .kept .1 .1 .1 .0 ∙ (c .before .before .before .before .before .before .before .before .before .before .before .before .before .before .before .before .before .loop) .inv .1, (c .before .before .before .before .lower-one) .kept .1 .1 .1 .1 .0 ∙ (c .before .before .before .before .before .before .before .before .before .before .before .before .before .before .before .before .before .loop) .inv .2, ran-next _ _ _ _ _ ((c .before .before .before .before .before .before .before .before .before .before .before .before .before .before .before .before .before .loop) .inv .3) ((c .before .before .before .before .lower-one) .ensures))
+loop-again c =
+    let inv = (c .before .before .before .before .before .before .before .before .before .before .before .before .before .before .before .before .before .before .before .before .before .before .before .loop) .inv in
+    let read = (c .before .before .before .before .before .before .before .before .before .before .before .before .before .lower-read) in (
+      omega (arith, inv .0, (c .before .before .before .before .before .before .before .before .before .before .before .before .before .before .before .before .before .before .before .before .read-root) .kept .1 .0),
+      read .kept .1 .1 .1 .0 ∙ inv .1,
+      read .kept .1 .1 .1 .1 .0 ∙ inv .2,
+      (c .before .before .before .print-answer) .kept .1 .0 ∙ inv .3,
+      left-fits _ _ _ (read .ensures .1) (inv .4),
+    )
 
-same-length-3 : tie.Need-same-length-3 Inv-loop μ-loop
-same-length-3 c = (c .before .before .loop) .inv .1
+same-length-7 : tie.Need-same-length-7 Inv-loop μ-loop
+same-length-7 c = (c .before .before .loop) .inv .1
 
-same-length-4 : tie.Need-same-length-4 Inv-loop μ-loop
-same-length-4 c = (c .before .before .loop) .inv .2
+same-length-8 : tie.Need-same-length-8 Inv-loop μ-loop
+same-length-8 c = (c .before .before .loop) .inv .2
 
-returns-2 : tie.Need-returns-2 Inv-loop μ-loop
-returns-2 c = (c .before .before .loop) .inv .3
+same-length-9 : tie.Need-same-length-9 Inv-loop μ-loop
+same-length-9 c = (c .before .before .loop) .inv .3
+
+returns-3 : tie.Need-returns-3 Inv-loop μ-loop
+returns-3 c = (c .before .before .loop) .inv .4
 
 pub lower-all-spec : {M : Type 1} → statement M
 lower-all-spec =
@@ -77,22 +119,28 @@ lower-all-spec =
     (tie.spec
     Inv-loop
     μ-loop
-    large-buffer-requires
-    slice-aggregate-root
+    slice-aggregate-buffer
     loop-holds
     read-root-requires
+    sub-lower-read
+    part-lower-read-start
+    part-lower-read-end
+    lower-read-requires
+    enum-known-first
     enum-told
     same-length
     same-length-2
+    same-length-3
     returns
-    enum-known-n
-    sub-lower-one
-    part-lower-one-start
-    part-lower-one-end
-    lower-one-requires
+    print-answer-requires
+    same-length-4
+    same-length-5
+    same-length-6
+    returns-2
     sub-turns
     loop-less
     loop-again
-    same-length-3
-    same-length-4
-    returns-2)
+    same-length-7
+    same-length-8
+    same-length-9
+    returns-3)

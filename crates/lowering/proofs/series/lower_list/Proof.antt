@@ -1,138 +1,62 @@
--- A list up to the first root that is refused: `Row` (proofs/Listed) goes from root to root, and text and state are in order behind the first.
 use mathlib.Core.Path.{_≡_, refl, sym, ap, _∙_}
-use mathlib.Core.List.{List}
-use Prim.Native.Nat.{ℕ, _-_, _<_}
-use native.Mathlib.Omega.{arith}
-use lib.ListN.{length}
+use denote.Ref.{now}
 use borrow.Author.Needs.{needs}
-use borrow.Author.Tests.{ltb-true}
 use Rattle.text.proofs.Lists.{told}
-use Rattle.definitions.specs.declared.state.State.{State}
-use Rattle.definitions.specs.declared.state.Stepped.{Stepped}
-use Rattle.definitions.specs.Series.{World}
-use Rattle.lowering.specs.declared.series.Ahead.the-variants.{Root}
-use Rattle.lowering.specs.Steps.{Going}
-use Rattle.lowering.specs.RootLists.{Stands}
-use Rattle.lowering.proofs.Judging.{going-after}
-use Rattle.lowering.proofs.Listed.{root-short, one-more, Row, row-all, row-end, row-refused, row-root, run-is}
+use Rattle.lowering.proofs.Listed.{list-long, list-ill, run-is}
 use Rattle.lowering.proofs.series.lower_list.Statement.{statement}
 use Rattle.lowering.proofs.series.lower_list.Tie as tie
 
-abbrev world : State → List ℕ → List ℕ → World
-world s calls notices = record { state = s; calls = calls; notices = notices }
+list-refused-requires : tie.Need-list-refused-requires
+list-refused-requires c κs = search needs
 
-abbrev Inv-loop : tie.InvT-loop
-Inv-loop text roots calls₀ notices₀ last₀ at₀ taken₀ calls notices last at taken =
-    (length calls ≡ length calls₀)
-    × (length notices ≡ length notices₀)
-    × Row text roots (world last₀ calls₀ notices₀) at taken (world last calls notices)
-    × (0 < taken → Going text last (length calls) (length notices))
+returns : tie.Need-returns
+returns c =
+    let a = (c .before .before .before .before .before .before .args) in
+    run-is _ _ _ _ _ (list-long (now (a .text)) (a .state) (now (a .calls)) (now (a .notices)) (now (a .roots)) ((c .before .if1) .taken) ((c .list-refused) .ensures))
 
-abbrev μ-loop : tie.MeasureT-loop
-μ-loop text roots calls₀ notices₀ last₀ at₀ taken₀ calls notices last at taken = length roots - at
+first-ill-formed-requires : tie.Need-first-ill-formed-requires
+first-ill-formed-requires c κs = search needs
 
-loop-holds : tie.Need-loop-holds Inv-loop μ-loop
-loop-holds c = (refl, refl, row-all _ _ _, λ h. absurd (omega (arith, h)))
+enum-known-place : tie.Need-enum-known-place
+enum-known-place c = search needs
 
-next-root-requires : tie.Need-next-root-requires Inv-loop μ-loop
-next-root-requires c κs = (c .loop) .inv .2 .within
+list-refused-requires-2 : tie.Need-list-refused-requires-2
+list-refused-requires-2 c κs = search needs
 
-enum-told : tie.Need-enum-told Inv-loop μ-loop
+enum-told : tie.Need-enum-told
 enum-told c = search needs
 
-list-end-requires : tie.Need-list-end-requires Inv-loop μ-loop
-list-end-requires c κs = search needs
+lower-if-unforged-requires : tie.Need-lower-if-unforged-requires
+lower-if-unforged-requires c κs = ((c .before .before .before .before .before .if1) .left, told ((c .before .before .before .before .first-ill-formed) .ensures) ((c .before .before .enum-told) .given .1))
 
-same-length : tie.Need-same-length Inv-loop μ-loop
-same-length c = (c .before .before .before .before .loop) .inv .0
-
-same-length-2 : tie.Need-same-length-2 Inv-loop μ-loop
-same-length-2 c = (c .before .before .before .before .loop) .inv .1
-
-returns : tie.Need-returns Inv-loop μ-loop
-returns c =
-    let e = row-end ((c .before .before .before .before .loop) .inv .2) ((c .before .before .before .next-root) .ensures .0) ((c .before .enum-told) .given .1) in
-    run-is _ _ _ (e ∙ λ ι. record { answer = sym ((c .list-end) .ensures) ι; world = world ((c .before .before .before .before .loop) .last) ((c .before .before .before .before .loop) .calls) ((c .before .before .before .before .loop) .notices); taken = (c .before .before .before .before .loop) .taken })
-
-enum-known-start : tie.Need-enum-known-start Inv-loop μ-loop
-enum-known-start c = search needs
-
--- the root that is ahead stands on the list
-standing : (c : tie.After-known-told Inv-loop μ-loop)
-    → Stands (c .before .before .before .before .before .before .before .before .before .args .roots .now) (c .before .before .before .before .loop .at)
-    (Root (c .before .start .given .0 .0) (c .before .start .given .0 .1 .0))
-standing c = rw (c .before .start .given .1) at (c .before .before .before .next-root .ensures .1)
-
-sub-lower-one : tie.Need-sub-lower-one Inv-loop μ-loop
-sub-lower-one c = standing c .1
-
-part-lower-one-start : tie.Need-part-lower-one-start Inv-loop μ-loop
-part-lower-one-start c = omega (arith, standing c .1)
-
-part-lower-one-end : tie.Need-part-lower-one-end Inv-loop μ-loop
-part-lower-one-end c = omega (arith, standing c .2)
-
-lower-one-requires : tie.Need-lower-one-requires Inv-loop μ-loop
-lower-one-requires c κs = (root-short _ _ _ _ (standing (c .before .before .before)), λ h. (c .before .before .before .before .before .before .before .loop) .inv .3 (ltb-true 0 ((c .before .before .before .before .before .before .before .loop) .taken) h))
-
-enum-known-answer : tie.Need-enum-known-answer Inv-loop μ-loop
-enum-known-answer c = search needs
-
-same-length-3 : tie.Need-same-length-3 Inv-loop μ-loop
-same-length-3 c = (c .before .before .before .before .before .before .before .before .lower-one) .kept .1 .1 .1 .0 ∙ (c .before .before .before .before .before .before .before .before .before .before .before .before .before .before .before .before .loop) .inv .0
-
-same-length-4 : tie.Need-same-length-4 Inv-loop μ-loop
-same-length-4 c = (c .before .before .before .before .before .before .before .before .lower-one) .kept .1 .1 .1 .1 .0 ∙ (c .before .before .before .before .before .before .before .before .before .before .before .before .before .before .before .before .loop) .inv .1
-
-returns-2 : tie.Need-returns-2 Inv-loop μ-loop
+returns-2 : tie.Need-returns-2
 returns-2 c =
-    let o = (c .before .before .before .before .before .before .before .before .lower-one) .ensures in
-    run-is _ _ _
-    (row-refused ((c .before .before .before .before .before .before .before .before .before .before .before .before .before .before .before .before .loop) .inv .2) ((c .before .before .before .before .before .before .before .before .before .before .before .before .before .before .before .next-root) .ensures .0) ((c .before .before .before .before .before .before .before .before .before .before .before .before .before .start) .given .1) ((c .before .before .before .before .before .before .before .before .before .before .before .before .before .before .before .next-root) .ensures .1)
-    (told (ap (λ (t : Stepped). t .answer) (o .answered)) ((c .before .answer) .given .1)) (one-more _ _ _ (o .answered) (o .called) (o .noticed)))
+    let a = (c .before .before .before .before .before .before .before .before .before .before .args) in
+    run-is _ _ _ _ _
+    (list-ill (now (a .text)) (a .state) (now (a .calls)) (now (a .notices)) (now (a .roots)) ((c .before .before .place) .given .0 .0) ((c .before .before .before .before .before .if1) .left)
+    (told ((c .before .before .before .before .first-ill-formed) .ensures) ((c .before .before .place) .given .1)) ((c .list-refused2) .ensures))
 
-enum-told-2 : tie.Need-enum-told-2 Inv-loop μ-loop
-enum-told-2 c = search needs
+same-length : tie.Need-same-length
+same-length c = search needs
 
-add-taken : tie.Need-add-taken Inv-loop μ-loop
-add-taken c = omega (arith, (c .before .before .before .before .before .before .before .before .before .before .before .before .before .before .before .loop) .inv .2 .counted, standing (c .before .before .before .before .before .before .before .before .before .before .before))
+same-length-2 : tie.Need-same-length-2
+same-length-2 c = search needs
 
-loop-less : tie.Need-loop-less Inv-loop μ-loop
-loop-less c = omega (arith, standing (c .before .before .before .before .before .before .before .before .before .before .before))
-
-loop-again : tie.Need-loop-again Inv-loop μ-loop
-loop-again c =
-    let o = (c .before .before .before .before .before .before .before .lower-one) .ensures in (
-      (c .before .before .before .before .before .before .before .lower-one) .kept .1 .1 .1 .0 ∙ (c .before .before .before .before .before .before .before .before .before .before .before .before .before .before .before .loop) .inv .0,
-      (c .before .before .before .before .before .before .before .lower-one) .kept .1 .1 .1 .1 .0 ∙ (c .before .before .before .before .before .before .before .before .before .before .before .before .before .before .before .loop) .inv .1,
-      row-root ((c .before .before .before .before .before .before .before .before .before .before .before .before .before .before .before .loop) .inv .2) ((c .before .before .before .before .before .before .before .before .before .before .before .before .before .before .next-root) .ensures .0) ((c .before .before .before .before .before .before .before .before .before .before .before .before .start) .given .1) ((c .before .before .before .before .before .before .before .before .before .before .before .before .before .before .next-root) .ensures .1)
-          (told (ap (λ (t : Stepped). t .answer) (o .answered)) ((c .enum-told2) .given .1)) (one-more _ _ _ (o .answered) (o .called) (o .noticed)),
-      λ h. going-after _ _ _ _ _ o ((c .enum-told2) .given .1),
-    )
+returns-3 : tie.Need-returns-3
+returns-3 c = run-is _ _ _ _ _ ((c .before .before .before .before .lower-if-unforged) .ensures)
 
 pub lower-list-spec : {M : Type 1} → statement M
 lower-list-spec =
     tie.close
     (tie.spec
-    Inv-loop
-    μ-loop
-    loop-holds
-    next-root-requires
+    list-refused-requires
+    returns
+    first-ill-formed-requires
+    enum-known-place
+    list-refused-requires-2
     enum-told
-    list-end-requires
+    lower-if-unforged-requires
+    returns-2
     same-length
     same-length-2
-    returns
-    enum-known-start
-    sub-lower-one
-    part-lower-one-start
-    part-lower-one-end
-    lower-one-requires
-    enum-known-answer
-    same-length-3
-    same-length-4
-    returns-2
-    enum-told-2
-    add-taken
-    loop-less
-    loop-again)
+    returns-3)

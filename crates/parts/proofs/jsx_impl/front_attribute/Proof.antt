@@ -114,11 +114,11 @@ enum-told-6 c = search needs
 
 -- src/jsx_impl.rt:321:1
 returns-2 : tie.Need-returns-2
-returns-2 c = ((omega arith, omega (arith, (c .skip-value) .ensures .0, ap length (tail-part ((c .before .before .before .before .before .before .before .before .before .before .args) .tape .now) 5), length-drop 5 ((c .before .before .before .before .before .before .before .before .before .before .args) .tape .now), (attribute-fits ((c .before .before .before .before .before .before .before .before .before .before .args) .tape .now) (told ((c .before .before .before .before .before .before .before .attribute-command-at) .ensures) ((c .before .before .before .before .before .command) .given .1))))), λ k e f d a u h i. front-plain k _ ((c .before .before .before .before .before .before .before .before .before .before .args) .tape .now) _ f d a u i _ (told ((c .before .before .before .before .before .before .before .attribute-command-at) .ensures) ((c .before .before .before .before .before .command) .given .1)) h (attribute-fits ((c .before .before .before .before .before .before .before .before .before .before .args) .tape .now) (told ((c .before .before .before .before .before .before .before .attribute-command-at) .ensures) ((c .before .before .before .before .before .command) .given .1))) (told ((c .before .before .before .is-late-key) .ensures k e) ((c .before .before .if1) .left)) _ (passing ((c .before .before .before .before .before .before .before .before .before .before .args) .tape .now) 5 _ d (λ g v w j l. (c .skip-value) .ensures .1 g _ d v w j l)))
+returns-2 c = ((omega arith, omega (arith, (c .skip-value) .ensures .0, ap length (tail-part ((c .before .before .before .before .before .before .before .before .before .before .args) .tape .now) 5), length-drop 5 ((c .before .before .before .before .before .before .before .before .before .before .args) .tape .now), (attribute-fits ((c .before .before .before .before .before .before .before .before .before .before .args) .tape .now) (told ((c .before .before .before .before .before .before .before .attribute-command-at) .ensures) ((c .before .before .before .before .before .command) .given .1))))), λ k e f d a u h i. front-plain k _ ((c .before .before .before .before .before .before .before .before .before .before .args) .tape .now) _ f d a u i _ (told ((c .before .before .before .before .before .before .before .attribute-command-at) .ensures) ((c .before .before .before .before .before .command) .given .1)) h (attribute-fits ((c .before .before .before .before .before .before .before .before .before .before .args) .tape .now) (told ((c .before .before .before .before .before .before .before .attribute-command-at) .ensures) ((c .before .before .before .before .before .command) .given .1))) (told ((c .before .before .before .is-late-key) .ensures k e) ((c .before .before .if1) .left)) _ (passing ((c .before .before .before .before .before .before .before .before .before .before .args) .tape .now) 5 _ d (λ g v w j l. (c .skip-value) .ensures .1 .0 g _ d v w j l)))
 
 -- src/jsx_impl.rt:321:1
 returns-3 : tie.Need-returns-3
-returns-3 c = ((omega arith, omega (arith, (c .skip-value2) .ensures .0, ap length (tail-part ((c .before .before .before .before .before .before .before .args) .tape .now) 9), length-drop 9 ((c .before .before .before .before .before .before .before .args) .tape .now), attribute-fits ((c .before .before .before .before .before .before .before .args) .tape .now) (told ((c .before .before .before .before .attribute-command-at) .ensures) ((c .before .before .enum-told) .given .1)))), λ k e f d a u h i. front-namespaced k _ ((c .before .before .before .before .before .before .before .args) .tape .now) _ f d a u i _ _ (told ((c .before .before .before .before .attribute-command-at) .ensures) ((c .before .before .enum-told) .given .1)) h (attribute-fits ((c .before .before .before .before .before .before .before .args) .tape .now) (told ((c .before .before .before .before .attribute-command-at) .ensures) ((c .before .before .enum-told) .given .1))) _ (passing ((c .before .before .before .before .before .before .before .args) .tape .now) 9 _ d (λ g v w j l. (c .skip-value2) .ensures .1 g _ d v w j l)))
+returns-3 c = ((omega arith, omega (arith, (c .skip-value2) .ensures .0, ap length (tail-part ((c .before .before .before .before .before .before .before .args) .tape .now) 9), length-drop 9 ((c .before .before .before .before .before .before .before .args) .tape .now), attribute-fits ((c .before .before .before .before .before .before .before .args) .tape .now) (told ((c .before .before .before .before .attribute-command-at) .ensures) ((c .before .before .enum-told) .given .1)))), λ k e f d a u h i. front-namespaced k _ ((c .before .before .before .before .before .before .before .args) .tape .now) _ f d a u i _ _ (told ((c .before .before .before .before .attribute-command-at) .ensures) ((c .before .before .enum-told) .given .1)) h (attribute-fits ((c .before .before .before .before .before .before .before .args) .tape .now) (told ((c .before .before .before .before .attribute-command-at) .ensures) ((c .before .before .enum-told) .given .1))) _ (passing ((c .before .before .before .before .before .before .before .args) .tape .now) 9 _ d (λ g v w j l. (c .skip-value2) .ensures .1 .0 g _ d v w j l)))
 
 -- src/jsx_impl.rt:321:1
 returns-4 : tie.Need-returns-4
@@ -126,7 +126,7 @@ returns-4 c = ((omega arith, attribute-fits ((c .before .before .before .before 
 
 -- src/jsx_impl.rt:321:1
 returns-5 : tie.Need-returns-5
-returns-5 c = ((omega arith, omega (arith, (c .skip-properties) .ensures .0, ap length (tail-part ((c .before .before .before .before .before .before .before .args) .tape .now) 3), length-drop 3 ((c .before .before .before .before .before .before .before .args) .tape .now), attribute-fits ((c .before .before .before .before .before .before .before .args) .tape .now) (told ((c .before .before .before .before .attribute-command-at) .ensures) ((c .before .before .enum-told3) .given .1)))), λ k e f d a u h i. front-literal k _ ((c .before .before .before .before .before .before .before .args) .tape .now) _ f d a u i _ (told ((c .before .before .before .before .attribute-command-at) .ensures) ((c .before .before .enum-told3) .given .1)) h (attribute-fits ((c .before .before .before .before .before .before .before .args) .tape .now) (told ((c .before .before .before .before .attribute-command-at) .ensures) ((c .before .before .enum-told3) .given .1))) _ (passing-properties ((c .before .before .before .before .before .before .before .args) .tape .now) 3 _ (λ g v w j l. (c .skip-properties) .ensures .1 g _ v w j l)))
+returns-5 c = ((omega arith, omega (arith, (c .skip-properties) .ensures .0, ap length (tail-part ((c .before .before .before .before .before .before .before .args) .tape .now) 3), length-drop 3 ((c .before .before .before .before .before .before .before .args) .tape .now), attribute-fits ((c .before .before .before .before .before .before .before .args) .tape .now) (told ((c .before .before .before .before .attribute-command-at) .ensures) ((c .before .before .enum-told3) .given .1)))), λ k e f d a u h i. front-literal k _ ((c .before .before .before .before .before .before .before .args) .tape .now) _ f d a u i _ (told ((c .before .before .before .before .attribute-command-at) .ensures) ((c .before .before .enum-told3) .given .1)) h (attribute-fits ((c .before .before .before .before .before .before .before .args) .tape .now) (told ((c .before .before .before .before .attribute-command-at) .ensures) ((c .before .before .enum-told3) .given .1))) _ (passing-properties ((c .before .before .before .before .before .before .before .args) .tape .now) 3 _ (λ g v w j l. (c .skip-properties) .ensures .1 .0 g _ v w j l)))
 
 -- src/jsx_impl.rt:321:1
 returns-6 : tie.Need-returns-6

@@ -5,22 +5,19 @@ use Rattle.replay.proofs.showing.say_hex.Statement.{statement}
 use Rattle.replay.proofs.showing.say_hex.Tie as tie
 
 abbrev Inv-loop : tie.InvT-loop
-Inv-loop bytes i₀ i = i ≤ length bytes
+Inv-loop bytes open₀ i₀ opened i = i ≤ length bytes
 
 abbrev μ-loop : tie.MeasureT-loop
-μ-loop bytes i₀ i = length bytes - i
+μ-loop bytes open₀ i₀ opened i = length bytes - i
 
 loop-holds : tie.Need-loop-holds Inv-loop μ-loop
 loop-holds c = search needs
 
-shared-slice-read-wide : tie.Need-shared-slice-read-wide Inv-loop μ-loop
-shared-slice-read-wide c = search needs
+shared-slice-read-say-byte : tie.Need-shared-slice-read-say-byte Inv-loop μ-loop
+shared-slice-read-say-byte c = search needs
 
-wide-requires : tie.Need-wide-requires Inv-loop μ-loop
-wide-requires c κs = search needs
-
-print-hex-requires : tie.Need-print-hex-requires Inv-loop μ-loop
-print-hex-requires c κs = search needs
+say-byte-requires : tie.Need-say-byte-requires Inv-loop μ-loop
+say-byte-requires c κs = search needs
 
 add-i : tie.Need-add-i Inv-loop μ-loop
 add-i c = search needs
@@ -41,9 +38,8 @@ say-hex-spec =
     Inv-loop
     μ-loop
     loop-holds
-    shared-slice-read-wide
-    wide-requires
-    print-hex-requires
+    shared-slice-read-say-byte
+    say-byte-requires
     add-i
     loop-less
     loop-again

@@ -1,27 +1,20 @@
-use Rattle.roots.proofs.Done.{PropertiesLeft, properties-left-none, properties-left-property, properties-left-named, properties-left-end, properties-left-wrong, properties-left-cut, property-room}
-use Rattle.definitions.specs.Reading.{propertiesAt}
-use Rattle.definitions.specs.Tree.{Property}
-use Rattle.definitions.specs.Judging.{done}
+use Rattle.roots.proofs.Literals.{PropertiesLeft, properties-left-all, properties-left-property, properties-left-named, properties-left-end, properties-left-wrong, properties-left-cut, property-room, properties-skipped}
 use Rattle.text.proofs.Lists.{told}
-use mathlib.Core.List.{List}
 use borrow.Author.Needs.{needs}
-use Prim.Native.Nat.{ℕ, _≤_, _<_, _-_}
+use Prim.Native.Nat.{_≤_, _-_}
 use native.Mathlib.Omega.{arith}
-use mathlib.Core.Path.{_≡_}
 use lib.ListN.{length}
 use Rattle.roots.proofs.skip.skip_properties.Statement.{statement}
 use Rattle.roots.proofs.skip.skip_properties.Tie as tie
 
 abbrev Inv-loop : tie.InvT-loop
-Inv-loop tape i₀ i =
-    (i ≤ length tape)
-    × ((f : ℕ) (text : List ℕ) (ps : List Property) (u : ℕ) → length tape < f → propertiesAt f text tape ≡ done ps u → PropertiesLeft text tape i u)
+Inv-loop tape i₀ i = (i ≤ length tape) × PropertiesLeft tape i
 
 abbrev μ-loop : tie.MeasureT-loop
 μ-loop tape i₀ i = length tape - i
 
 loop-holds : tie.Need-loop-holds Inv-loop μ-loop
-loop-holds c = (omega arith, λ f text ps u h e. properties-left-none f text _ ps u h e)
+loop-holds c = (omega arith, properties-left-all _)
 
 sub-property-command-at : tie.Need-sub-property-command-at Inv-loop μ-loop
 sub-property-command-at c = omega (arith, (c .loop) .inv .0)
@@ -45,7 +38,9 @@ loop-less : tie.Need-loop-less Inv-loop μ-loop
 loop-less c = omega (arith, property-room ((c .before .before .before .before .before .before .args) .tape .now) ((c .before .before .before .before .loop) .i) ((c .before .before .before .before .loop) .inv .0) (told ((c .before .before .property-command-at) .ensures) ((c .enum-told) .given .1)))
 
 loop-again : tie.Need-loop-again Inv-loop μ-loop
-loop-again c = (property-room ((c .before .before .before .before .before .before .args) .tape .now) ((c .before .before .before .before .loop) .i) ((c .before .before .before .before .loop) .inv .0) (told ((c .before .before .property-command-at) .ensures) ((c .enum-told) .given .1)), λ f text ps u h e. properties-left-property ((c .before .before .before .before .loop) .inv .0) ((c .before .before .before .before .loop) .inv .1 f text ps u h e) _ (told ((c .before .before .property-command-at) .ensures) ((c .enum-told) .given .1)))
+loop-again c =
+    let stands = told ((c .before .before .property-command-at) .ensures) ((c .enum-told) .given .1) in
+    (property-room ((c .before .before .before .before .before .before .args) .tape .now) ((c .before .before .before .before .loop) .i) ((c .before .before .before .before .loop) .inv .0) stands, properties-left-property ((c .before .before .before .before .loop) .inv .1) _ stands)
 
 enum-told-2 : tie.Need-enum-told-2 Inv-loop μ-loop
 enum-told-2 c = search needs
@@ -57,7 +52,9 @@ loop-less-2 : tie.Need-loop-less-2 Inv-loop μ-loop
 loop-less-2 c = omega (arith, property-room ((c .before .before .before .before .before .before .args) .tape .now) ((c .before .before .before .before .loop) .i) ((c .before .before .before .before .loop) .inv .0) (told ((c .before .before .property-command-at) .ensures) ((c .enum-told2) .given .1)))
 
 loop-again-2 : tie.Need-loop-again-2 Inv-loop μ-loop
-loop-again-2 c = (property-room ((c .before .before .before .before .before .before .args) .tape .now) ((c .before .before .before .before .loop) .i) ((c .before .before .before .before .loop) .inv .0) (told ((c .before .before .property-command-at) .ensures) ((c .enum-told2) .given .1)), λ f text ps u h e. properties-left-named ((c .before .before .before .before .loop) .inv .0) ((c .before .before .before .before .loop) .inv .1 f text ps u h e) _ _ (told ((c .before .before .property-command-at) .ensures) ((c .enum-told2) .given .1)))
+loop-again-2 c =
+    let stands = told ((c .before .before .property-command-at) .ensures) ((c .enum-told2) .given .1) in
+    (property-room ((c .before .before .before .before .before .before .args) .tape .now) ((c .before .before .before .before .loop) .i) ((c .before .before .before .before .loop) .inv .0) stands, properties-left-named ((c .before .before .before .before .loop) .inv .1) _ _ stands)
 
 enum-told-3 : tie.Need-enum-told-3 Inv-loop μ-loop
 enum-told-3 c = search needs
@@ -66,19 +63,19 @@ add-result : tie.Need-add-result Inv-loop μ-loop
 add-result c = omega (arith, property-room ((c .before .before .before .before .before .before .args) .tape .now) ((c .before .before .before .before .loop) .i) ((c .before .before .before .before .loop) .inv .0) (told ((c .before .before .property-command-at) .ensures) ((c .enum-told3) .given .1)))
 
 returns : tie.Need-returns Inv-loop μ-loop
-returns c = (property-room ((c .before .before .before .before .before .before .args) .tape .now) ((c .before .before .before .before .loop) .i) ((c .before .before .before .before .loop) .inv .0) (told ((c .before .before .property-command-at) .ensures) ((c .enum-told3) .given .1)), λ f text ps u h e. properties-left-end ((c .before .before .before .before .loop) .inv .0) ((c .before .before .before .before .loop) .inv .1 f text ps u h e) (told ((c .before .before .property-command-at) .ensures) ((c .enum-told3) .given .1)))
+returns c = properties-skipped _ (properties-left-end ((c .before .before .before .before .loop) .inv .1) (told ((c .before .before .property-command-at) .ensures) ((c .enum-told3) .given .1)))
 
 enum-told-4 : tie.Need-enum-told-4 Inv-loop μ-loop
 enum-told-4 c = search needs
 
 returns-2 : tie.Need-returns-2 Inv-loop μ-loop
-returns-2 c = ((c .before .before .before .before .loop) .inv .0, λ f text ps u h e. absurd (properties-left-wrong ((c .before .before .before .before .loop) .inv .0) ((c .before .before .before .before .loop) .inv .1 f text ps u h e) (told ((c .before .before .property-command-at) .ensures) ((c .enum-told4) .given .1))))
+returns-2 c = properties-skipped _ (properties-left-wrong ((c .before .before .before .before .loop) .inv .1) (told ((c .before .before .property-command-at) .ensures) ((c .enum-told4) .given .1)))
 
 enum-told-5 : tie.Need-enum-told-5 Inv-loop μ-loop
 enum-told-5 c = search needs
 
 returns-3 : tie.Need-returns-3 Inv-loop μ-loop
-returns-3 c = ((c .before .before .before .before .loop) .inv .0, λ f text ps u h e. absurd (properties-left-cut ((c .before .before .before .before .loop) .inv .0) ((c .before .before .before .before .loop) .inv .1 f text ps u h e) (told ((c .before .before .property-command-at) .ensures) ((c .enum-told5) .given .1))))
+returns-3 c = properties-skipped _ (properties-left-cut ((c .before .before .before .before .loop) .inv .1) (told ((c .before .before .property-command-at) .ensures) ((c .enum-told5) .given .1)))
 
 pub skip-properties-spec : {M : Type 1} → statement M
 skip-properties-spec =

@@ -1,26 +1,19 @@
-use Rattle.roots.proofs.Walking.{Ahead, ahead-none, open-behind-le, ahead-stands, ahead-last, ahead-more}
-use Rattle.definitions.specs.Reading.{valueAt}
-use Rattle.definitions.specs.Tree.{Value}
-use Rattle.definitions.specs.Judging.{done}
-use mathlib.Core.List.{List}
+use Rattle.roots.proofs.Walking.{Passed, passed-none, open-behind-le, passed-no-command, passed-cut, passed-last, passed-more, passed-end, value-skipped}
 use borrow.Author.Needs.{needs}
-use Prim.Native.Nat.{ℕ, _≤_, _<_, _-_}
+use Prim.Native.Nat.{_≤_, _-_}
 use native.Mathlib.Omega.{arith}
-use mathlib.Core.Path.{_≡_, refl, sym, _∙_}
 use lib.ListN.{length, getD}
 use Rattle.roots.proofs.skip.skip_value.Statement.{statement}
 use Rattle.roots.proofs.skip.skip_value.Tie as tie
 
 abbrev Inv-loop : tie.InvT-loop
-Inv-loop tape levels₀ i₀ levels i =
-    (i ≤ length tape) × (levels ≤ i)
-    × ((f : ℕ) (text : List ℕ) (d : ℕ) (v : Value) (u : ℕ) → length tape < f → valueAt f text d tape ≡ done v u → Ahead tape levels i u)
+Inv-loop tape levels₀ i₀ levels i = (i ≤ length tape) × (levels ≤ i) × Passed tape levels i
 
 abbrev μ-loop : tie.MeasureT-loop
 μ-loop tape levels₀ i₀ levels i = length tape - i
 
 loop-holds : tie.Need-loop-holds Inv-loop μ-loop
-loop-holds c = (omega arith, omega arith, λ f text d v u h e. ahead-none f text d _ v u e)
+loop-holds c = (omega arith, omega arith, passed-none _)
 
 shared-slice-read-code : tie.Need-shared-slice-read-code Inv-loop μ-loop
 shared-slice-read-code c = search needs
@@ -29,13 +22,13 @@ command-size-requires : tie.Need-command-size-requires Inv-loop μ-loop
 command-size-requires c κs = search needs
 
 returns : tie.Need-returns Inv-loop μ-loop
-returns c = ((c .before .before .before .before .loop) .inv .0, λ f text d v u h e. absurd (omega (arith, ahead-stands ((c .before .before .before .before .loop) .inv .2 f text d v u h e) ((c .before .command-size) .ensures), (c .if1) .taken)))
+returns c = value-skipped _ (passed-no-command ((c .before .before .before .before .loop) .inv .2) ((c .before .command-size) .ensures) ((c .if1) .taken))
 
 sub-if2 : tie.Need-sub-if2 Inv-loop μ-loop
 sub-if2 c = search needs
 
 returns-2 : tie.Need-returns-2 Inv-loop μ-loop
-returns-2 c = ((c .before .before .before .before .before .loop) .inv .0, λ f text d v u h e. absurd (omega (arith, ahead-stands ((c .before .before .before .before .before .loop) .inv .2 f text d v u h e) ((c .before .before .command-size) .ensures), (c .if2) .taken)))
+returns-2 c = value-skipped _ (passed-cut ((c .before .before .before .before .before .loop) .inv .2) ((c .before .before .command-size) .ensures) ((c .if2) .taken))
 
 open-behind-requires : tie.Need-open-behind-requires Inv-loop μ-loop
 open-behind-requires c κs = search needs
@@ -44,16 +37,22 @@ add-i : tie.Need-add-i Inv-loop μ-loop
 add-i c = search needs
 
 returns-3 : tie.Need-returns-3 Inv-loop μ-loop
-returns-3 c = (omega arith, λ f text d v u h e. ahead-last ((c .before .before .before .before .before .before .before .loop) .inv .2 f text d v u h e) ((c .before .before .before .before .command-size) .ensures) (sym ((c .before .open-behind) .ensures) ∙ (c .if3) .taken))
+returns-3 c =
+    let l = (c .before .before .before .before .before .before .before .loop) in
+    value-skipped _ (passed-last (l .inv .2) ((c .before .before .before .before .command-size) .ensures) ((c .before .before .before .if1) .left) ((c .before .before .if2) .left) ((c .before .open-behind) .ensures) ((c .if3) .taken))
 
 loop-less : tie.Need-loop-less Inv-loop μ-loop
 loop-less c = omega arith
 
 loop-again : tie.Need-loop-again Inv-loop μ-loop
-loop-again c = (omega arith, omega (arith, (c .before .open-behind) .ensures, open-behind-le (getD ((c .before .before .before .before .before .before .before .before .before .args) .tape .now) ((c .before .before .before .before .before .before .before .loop) .i) 0) ((c .before .before .before .before .before .before .before .loop) .levels)), λ f text d v u h e. ahead-more ((c .before .before .before .before .before .before .before .loop) .inv .2 f text d v u h e) ((c .before .before .before .before .command-size) .ensures) ((c .before .open-behind) .ensures) ((c .if3) .left))
+loop-again c =
+    let tape = (c .before .before .before .before .before .before .before .before .before .args) .tape .now in
+    let l = (c .before .before .before .before .before .before .before .loop) in
+    let behind = (c .before .open-behind) in
+    (omega arith, omega (arith, behind .ensures, open-behind-le (getD tape (l .i) 0) (l .levels)), passed-more (l .inv .2) ((c .before .before .before .before .command-size) .ensures) ((c .before .before .before .if1) .left) ((c .before .before .if2) .left) (behind .ensures) ((c .if3) .left))
 
 returns-4 : tie.Need-returns-4 Inv-loop μ-loop
-returns-4 c = ((c .before .loop) .inv .0, λ f text d v u h e. absurd (omega (arith, ahead-stands ((c .before .loop) .inv .2 f text d v u h e) refl, (c .loop-test) .left)))
+returns-4 c = value-skipped _ (passed-end ((c .before .loop) .inv .2) ((c .loop-test) .left) ((c .before .loop) .inv .0))
 
 pub skip-value-spec : {M : Type 1} → statement M
 skip-value-spec =

@@ -1,0 +1,34 @@
+use mathlib.Core.Path.{_≡_, refl, sym, ap, _∙_}
+use denote.Ref.{now}
+use Rattle.resolved.specs.Resolved.{sourceText}
+use Rattle.resolved.proofs.Writing.{crowded-by, roomy-by, source-size}
+use borrow.Author.Needs.{needs}
+use Rattle.resolved.proofs.write_fitting.Statement.{statement}
+use Rattle.resolved.proofs.write_fitting.Tie as tie
+
+slice-aggregate-put-source : tie.Need-slice-aggregate-put-source
+slice-aggregate-put-source c = search needs
+
+put-source-requires : tie.Need-put-source-requires
+put-source-requires c κs = search needs
+
+returns : tie.Need-returns
+returns c =
+    let a = (c .before .before .before .before .before .before .args) in
+    crowded-by (sourceText (now (a .text)) (a .options) (a .source)) (now (a .target))
+    (source-size (now (a .text)) (a .options) (a .source) (c .before .before .before .before .before .before .pre) ((c .before .before .put-source) .ensures)) ((c .if1) .taken)
+
+put-source-requires-2 : tie.Need-put-source-requires-2
+put-source-requires-2 c κs = search needs
+
+same-length : tie.Need-same-length
+same-length c = search needs
+
+returns-2 : tie.Need-returns-2
+returns-2 c =
+    let a = (c .before .before .before .before .before .before .before .before .before .before .args) in
+    roomy-by (sourceText (now (a .text)) (a .options) (a .source)) (now (a .target))
+    (source-size (now (a .text)) (a .options) (a .source) (c .before .before .before .before .before .before .before .before .before .before .pre) ((c .before .before .before .before .before .before .put-source) .ensures)) ((c .before .before .before .before .if1) .left) ((c .before .before .put-source2) .ensures)
+
+pub write-fitting-spec : {M : Type 1} → statement M
+write-fitting-spec = tie.close (tie.spec slice-aggregate-put-source put-source-requires returns put-source-requires-2 same-length returns-2)

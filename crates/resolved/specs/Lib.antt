@@ -1,0 +1,2 @@
+pub mod Resolved
+pub mod Examples
