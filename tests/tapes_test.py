@@ -1,11 +1,15 @@
 #!/usr/bin/env python3
-"""Listings of random and of damaged tapes make the same tapes again: python3 tests/tapes_test.py"""
+"""Listings of random and of damaged tapes make the same tapes again; refusals are told in words, and so are errors: python3 tests/tapes_test.py"""
 
 import os
 import random
+import subprocess
 import sys
 
-sys.path.insert(0, os.path.join(os.path.dirname(os.path.abspath(__file__)), "..", "tools"))
+HERE = os.path.dirname(os.path.abspath(__file__))
+TOOL = os.path.join(HERE, "..", "tools", "tapes.py")
+DATA = os.path.join(HERE, "..", "crates", "jsxtape", "data")
+sys.path.insert(0, os.path.dirname(TOOL))
 sys.dont_write_bytecode = True
 import tapes  # noqa: E402
 
@@ -19,7 +23,50 @@ def commands(rng):
     return tape
 
 
+# a root in a root, and what a refusal of it says: the number, the figure, and words that the answer has
+ROOT = """heritage none
+scope function
+element 2 4
+  tag 0+1
+  end_attributes
+  fragment 3 6
+    text 0+9
+  end
+  text 0+1
+end"""
+REFUSALS = [
+    (1, 65535, ["65,535 bytes"]),
+    (3, 40, ["ends too soon", "byte 40, where the root tape ends"]),
+    (4, 28, ["outside the text", "line 7 of its listing: text 0+9", "fragment that begins at line 4, column 7"]),
+    (7, 34, ["ampersand", "line 9 of its listing: text 0+1", "element that begins at line 3, column 5"]),
+    (10, 17, ["17 bytes"]),
+]
+# words of a command that is wrong, and what is said of it
+ERRORS = [
+    (["list", "no such file"], "no such file: No such file or directory"),
+    (["hex", os.path.join(DATA, "root.bin")], "no command"),
+    (["show", "zz"], "not hexadecimal: zz"),
+    (["explain", os.path.join(DATA, "root.bin"), os.path.join(DATA, "text.bin"), "4", "x"], "not a number: x"),
+    (["explain", os.path.join(DATA, "root.bin"), os.path.join(DATA, "text.bin"), "5", "0"], "no root is refused by 5"),
+    ([], "Tapes as listings"),
+]
+
+
+def explanations():
+    root = tapes.made(ROOT.split("\n"))
+    for number, figure, words in REFUSALS:
+        said = "\n".join(tapes.explained(root, b"a", number, figure))
+        for word in words:
+            if word not in said:
+                raise SystemExit(f"{number} {figure}: no {word!r} in {said!r}")
+    for words, said in ERRORS:
+        done = subprocess.run([sys.executable, TOOL, *words], capture_output=True, text=True)
+        if done.returncode != 1 or not done.stderr.startswith(said):
+            raise SystemExit(f"{words}: {done.stderr!r}")
+
+
 def main():
+    explanations()
     rng, seen = random.Random(2026), set()
     for turn in range(20000):
         tape = commands(rng)
