@@ -1,6 +1,6 @@
 -- Writing what fits, behind the tests of text and state.
 --     state-short                      a text that passes them is not too long
---     behind-refused, behind-accepted  what a judgement comes to behind them
+--     state-refused, state-accepted    what a judgement comes to behind them
 --     crowded-by, roomy-by             refusal 10, and a target with room, where the size was measured
 --     source-size                      the text of a source is measured right
 -- Assumes nothing.
@@ -10,11 +10,10 @@ use mathlib.Core.List.{List, [], _∷_, _++_}
 use Prim.Native.Nat.{ℕ, _+_, _≤_, _<_}
 use native.Mathlib.Omega.{arith}
 use lib.ListN.{length, take, drop, length-append, length-take, length-drop}
-use lib.Dec.{eqb, ltb}
+use lib.Dec.{eqb}
 use borrow.Author.Tests.{ltb-false}
 use Rattle.text.specs.declared.spans.Span.{Span}
 use Rattle.text.specs.Spans.{partOf}
-use Rattle.text.specs.Utf8.{firstIll}
 use Rattle.tape.specs.declared.refusal.Refusal.{Refusal}
 use Rattle.tape.specs.declared.refusal.Refusal.the-variants as refusal
 use Rattle.tape.specs.Targets.{Wrote}
@@ -27,36 +26,30 @@ use Rattle.definitions.specs.declared.state.Answer.{Answer}
 use Rattle.definitions.specs.declared.state.Answer.the-variants.{Accepted, Refused}
 use Rattle.definitions.specs.declared.state.Written.{Written}
 use Rattle.definitions.specs.declared.state.Written.the-variants as written
-use Rattle.definitions.specs.Judging.{Judged}
+use Rattle.definitions.specs.Judging.{Judged, accepted}
+use Rattle.definitions.proofs.Verdicts.{past}
 use Rattle.definitions.specs.Opening.{orReact, importSource, runtimeSource}
-use Rattle.definitions.specs.States.{sound}
 use Rattle.definitions.specs.Entries.{laid, recordsAnswer, recordsTarget}
 use Rattle.records.specs.Tape.{judgeTape}
 use Rattle.records.proofs.Writing.{Comes, crowded, roomy}
-use Rattle.resolved.specs.Resolved.{runtimePath, sourceText, illAnswer, stateAnswer, behind}
+use Rattle.resolved.specs.Resolved.{runtimePath, sourceText, judgeState, behind}
 
 -- ---- behind the tests
 
-not-accepted : {B : Type 0} (x : Refusal) → Refused x ≡ Accepted → B
-not-accepted x e = let z : _≡_ {A = ℕ} 0 1 = cc in absurd (omega arith)
+module _ (text : List ℕ) (s : State) {a : Answer} (f : (j : Judged (List ℕ)) → judgeState text s j ≡ behind a j) where
+  pub state-short : a ≡ Accepted → length text ≤ 65535
+  unfolding judgeState behind
+  state-short e =
+      let k = f (accepted []) ∙ ap (λ (x : Answer). behind x (accepted [])) e in
+      ltb-false 65535 (length text) (past _ _ _ _ k .0)
 
-pub state-short : (text : List ℕ) (s : State) → stateAnswer text s ≡ Accepted → length text ≤ 65535
-unfolding stateAnswer
-state-short text s e = go (ltb 65535 (length text)) refl e
-  where
-    go : (b : Bool) → ltb 65535 (length text) ≡ b
-        → cond b (Refused refusal.TooLong) (illAnswer (firstIll text) (cond (sound text s) Accepted (Refused refusal.Forged))) ≡ Accepted
-        → length text ≤ 65535
-    go true q e = not-accepted _ e
-    go false q e = ltb-false 65535 (length text) q
+  pub state-refused : (x : Refusal) (j : Judged (List ℕ)) (o : List ℕ) → a ≡ Refused x → Comes (judgeState text s j) (written.Refused x) o o
+  unfolding behind recordsAnswer recordsTarget
+  state-refused x j o e = rw (f j, e) (refl, refl)
 
-pub behind-refused : {a : Answer} (x : Refusal) (j : Judged (List ℕ)) (o : List ℕ) → a ≡ Refused x → Comes (behind a j) (written.Refused x) o o
-unfolding behind recordsAnswer recordsTarget
-behind-refused x j o e = rw e (refl, refl)
-
-pub behind-accepted : {a : Answer} (j : Judged (List ℕ)) (o : List ℕ) {w : Written} {o′ : List ℕ} → a ≡ Accepted → Comes j w o o′ → Comes (behind a j) w o o′
-unfolding behind
-behind-accepted j o e h = rw e h
+  pub state-accepted : (j : Judged (List ℕ)) (o : List ℕ) {w : Written} {o′ : List ℕ} → a ≡ Accepted → Comes j w o o′ → Comes (judgeState text s j) w o o′
+  unfolding behind
+  state-accepted j o e h = rw (f j, e) h
 
 -- ---- the room
 

@@ -3,13 +3,15 @@
 //
 //     @jsxImportSource preact          B0 00 is "preact", B0 01 is "preact/jsx-runtime"
 ghost use mathlib.Core.Path.{_≡_};
-ghost use Prim.Native.Nat.{_≤_, _^_};
+ghost use mathlib.Core.List.{List};
+ghost use Prim.Native.Nat.{ℕ, _≤_, _^_};
 ghost use lib.ListN.{length};
+ghost use Rattle.definitions.specs.Judging.{Judged};
 ghost use Rattle.definitions.specs.Entries.{recordsAnswer, recordsTarget};
 ghost use Rattle.definitions.specs.Opening.{orReact, importSource, runtimeSource};
 ghost use Rattle.records.specs.Tape.{judgeTape};
 ghost use Rattle.tape.specs.Targets.{Wrote};
-ghost use Rattle.resolved.specs.Resolved.{runtimePath, sourceText, stateAnswer, judgeSource, judgeSettings};
+ghost use Rattle.resolved.specs.Resolved.{runtimePath, sourceText, judgeState, behind, judgeSource, judgeSettings};
 use definitions::options::Optional;
 use definitions::options::Options;
 use definitions::state::Answer;
@@ -82,7 +84,7 @@ fn put_source(text: &[u8], options: Options, source: u8, out: &mut [u8]) -> usiz
 
 // Text and state as writing records judges them.
 fn judge_state(text: &[u8], state: State) -> Answer
-    ensures { λ r. ⌜ r ≡ stateAnswer (now (text .entry)) state ⌝ }
+    ensures { λ r. ⌜ ((j : Judged (List ℕ)) → judgeState (now (text .entry)) state j ≡ behind r j) ⌝ }
 {
     if 65535 < text.len() {
         return Answer::Refused(Refusal::TooLong);

@@ -162,11 +162,20 @@ pub fn roots(
     (taken, Refusal::told(number, figure))
 }
 
+// An entry that writes what a state says into a target.
+type Writes =
+    unsafe extern "C" fn(*const u8, usize, *const u8, usize, *mut u8, usize, *mut usize) -> u8;
+
 // How many bytes were written.
-pub fn records(text: &[u8], state: &[u8; STATE_SIZE], target: &mut [u8]) -> Result<usize, Refusal> {
+fn written(
+    entry: Writes,
+    text: &[u8],
+    state: &[u8; STATE_SIZE],
+    target: &mut [u8],
+) -> Result<usize, Refusal> {
     let mut figure = 0;
     let number = unsafe {
-        jsx_records(
+        entry(
             text.as_ptr(),
             text.len(),
             state.as_ptr(),
@@ -179,20 +188,16 @@ pub fn records(text: &[u8], state: &[u8; STATE_SIZE], target: &mut [u8]) -> Resu
     Refusal::told(number, figure).map(|()| figure)
 }
 
-pub fn settings(text: &[u8], state: &[u8; STATE_SIZE], target: &mut [u8]) -> Result<(), Refusal> {
-    let mut figure = 0;
-    let number = unsafe {
-        jsx_settings(
-            text.as_ptr(),
-            text.len(),
-            state.as_ptr(),
-            state.len(),
-            target.as_mut_ptr(),
-            target.len(),
-            &mut figure,
-        )
-    };
-    Refusal::told(number, figure)
+pub fn records(text: &[u8], state: &[u8; STATE_SIZE], target: &mut [u8]) -> Result<usize, Refusal> {
+    written(jsx_records, text, state, target)
+}
+
+pub fn settings(
+    text: &[u8],
+    state: &[u8; STATE_SIZE],
+    target: &mut [u8],
+) -> Result<usize, Refusal> {
+    written(jsx_settings, text, state, target)
 }
 
 // How many bytes the text of the source with this number has.

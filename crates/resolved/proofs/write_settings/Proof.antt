@@ -1,10 +1,9 @@
 use mathlib.Core.Path.{_≡_, refl, sym, ap, _∙_}
 use denote.Ref.{now}
-use Rattle.text.proofs.Lists.{told}
 use Rattle.packing.specs.Packed.{settingsBytes}
 use Rattle.packing.proofs.Bytes.{settings-length}
 use Rattle.resolved.specs.Resolved.{judgeSettings}
-use Rattle.resolved.proofs.Writing.{behind-refused, behind-accepted, crowded-by, roomy-by}
+use Rattle.resolved.proofs.Writing.{state-refused, state-accepted, crowded-by, roomy-by}
 use borrow.Author.Needs.{needs}
 use Rattle.resolved.proofs.write_settings.Statement.{statement}
 use Rattle.resolved.proofs.write_settings.Tie as tie
@@ -22,7 +21,7 @@ returns : tie.Need-returns
 unfolding judgeSettings
 returns c =
     let a = (c .before .before .before .before .before .before .args) in
-    behind-accepted _ _ (told ((c .before .before .before .judge-state) .ensures) ((c .before .enum-told) .given .1))
+    state-accepted _ _ (c .before .before .before .judge-state .ensures) _ _ (c .before .enum-told .given .1)
     (crowded-by (settingsBytes (a .state .settings)) (now (a .target)) (sym (settings-length (a .state .settings))) ((c .if1) .taken))
 
 put-settings-requires : tie.Need-put-settings-requires
@@ -30,7 +29,7 @@ put-settings-requires c κs = search needs
 
 returns-2 : tie.Need-returns-2
 unfolding judgeSettings
-returns-2 c = behind-refused _ _ _ (told ((c .before .before .before .judge-state) .ensures) ((c .before .refusal) .given .1))
+returns-2 c = state-refused _ _ (c .before .before .before .judge-state .ensures) _ _ _ (c .before .refusal .given .1)
 
 same-length : tie.Need-same-length
 same-length c = search needs
@@ -39,7 +38,7 @@ returns-3 : tie.Need-returns-3
 unfolding judgeSettings
 returns-3 c =
     let a = (c .before .before .before .before .before .before .before .before .before .before .before .args) in
-    behind-accepted _ _ (told ((c .before .before .before .before .before .before .before .before .judge-state) .ensures) ((c .before .before .before .before .before .before .enum-told) .given .1))
+    state-accepted _ _ (c .before .before .before .before .before .before .before .before .judge-state .ensures) _ _ (c .before .before .before .before .before .before .enum-told .given .1)
     (roomy-by (settingsBytes (a .state .settings)) (now (a .target)) (sym (settings-length (a .state .settings))) ((c .before .before .before .before .before .if1) .left) ((c .before .before .put-settings) .ensures))
 
 pub write-settings-spec : {M : Type 1} → statement M
