@@ -20,8 +20,8 @@ from model import run
 TOP = pathlib.Path(__file__).resolve().parent.parent.parent
 RIGHT = "ok: the native program at -O3 ended and wrote what is expected"
 JSX, EMIT, SELF, PEN, STRINGS = "jsx/src/jsx_impl.rt", "emit/src/jsx_impl.rt", "emit/src/jsx_self.rt", "pen/src/pen.rt", "pen/src/strings.rt"
-PARTS, LINES, ROOTS, CHARS, LOWERING = "parts/src/jsx_impl.rt", "jsx_text/src/lib.rt", "roots/src/check.rt", "text/src/chars.rt", "lowering/src/lib.rt"
-COMMENTS, SETTINGS, OPTIONS, PRAGMA = "comments/src/lib.rt", "settings/src/jsx_impl.rt", "settings/src/options.rt", "pragma/src/lib.rt"
+PARTS, LINES, ROOTS, CHARS, LOWERING = "parts/src/jsx_impl.rt", "jsx_text/src/lib.rt", "root_check/src/check.rt", "text/src/chars.rt", "lowering/src/lib.rt"
+COMMENTS, SETTINGS, OPTIONS, PRAGMA = "comments/src/lib.rt", "settings/src/jsx_impl.rt", "option_values/src/lib.rt", "pragma/src/lib.rt"
 GROUPS, RECORDS, FINDING, NOTICES = "records/src/groups.rt", "records/src/record_tape.rt", "records/src/finding.rt", "pen/src/diagnostics.rt"
 
 FAULTS = [
@@ -57,16 +57,16 @@ FAULTS = [
     ("a class without superclass forbids this", SELF, "    heritage != 2\n", "    heritage == 0\n"),
     ("an outer constructor decides", SELF, "inside = inside | (!known & (kind == 2));", "inside = inside | (kind == 2);"),
     ("the column counts from 0", PEN, "wrapping_add_u32(place.column, 1)", "wrapping_add_u32(place.column, 0)"),
-    ("a run of letters takes the spaces behind it", LINES, "    while s[to - 1] == 0x20 {\n        to -= 1;\n    }\n", ""),
+    ("a run of letters takes the spaces behind it", LINES, "    while s[to - 1] == b' ' {\n        to -= 1;\n    }\n", ""),
     ("the first line loses its front", LINES, "    let mut first_non_whitespace = 0;", "    let mut first_non_whitespace = chars.len();"),
     ("blank lines stay", LINES, "                if first_non_whitespace < last_non_whitespace {", "                if true {"),
     ("lines join without a space", LINES, "    if later {\n        return SPACE;\n    }\n    STRING_BEGIN", "    if later {\n        return PIECE;\n    }\n    STRING_BEGIN"),
     ("U+2029 ends no line", CHARS, " | (code == 0x2029)", ""),
     ("U+FEFF is no white space", CHARS, " | (code == 0xfeff)", ""),
     ("U+0085 is white space", CHARS, "    (code == 0x09) | (code == 0x0b)", "    (code == 0x09) | (code == 0x85) | (code == 0x0b)"),
-    ("a 65th level", ROOTS, "    if 64 <= depth {", "    if 65 <= depth {"),
-    ("an ampersand passes", ROOTS, "find_byte(part(text, span), 0x26)", "find_byte(part(text, span), 0x00)"),
-    ("the greatest column passes", ROOTS, "    if place.column == 0xffff_ffff {", "    if place.column == 0xffff_fffe {"),
+    ("a 65th level", ROOTS, "    if MOST_LEVELS <= depth {", "    if 65 <= depth {"),
+    ("an ampersand passes", ROOTS, "find_byte(part(text, span), b'&')", "find_byte(part(text, span), 0x00)"),
+    ("the greatest column passes", ROOTS, "    if place.column == HIGHEST {", "    if place.column == 0xffff_fffe {"),
     ("an empty name passes", ROOTS, "        Bounds::Empty => Scan::Bad(Fault::EmptyName, 0),", "        Bounds::Empty => Scan::Good(n),"),
     ("a star before @ doesn't count", COMMENTS, " | (b == b'*')", ""),
     ("VT doesn't end a value", COMMENTS, "((0x09 <= b) & (b <= 0x0d))", "((0x09 <= b) & (b <= 0x0a)) | (b == 0x0c) | (b == 0x0d)"),
@@ -80,7 +80,7 @@ FAULTS = [
     ("reserved roots are in order", PRAGMA, "    if is_reserved_keyword(root) {\n        return default_form();\n    }\n", ""),
     ("import with any second part", PRAGMA, '    if same(&behind[1..end], b"meta") {', '    if true | same(&behind[1..end], b"meta") {'),
     ("a digit begins a name", PRAGMA, "    if !is_identifier_start(w[0]) {", "    if !is_identifier_part(w[0]) {"),
-    ("source 0 isn't put in front", GROUPS, "with_group(groups, source, source == 0)", "with_group(groups, source, false)"),
+    ("source 0 isn't put in front", GROUPS, "with_group(groups, source, source == IMPORT_SOURCE)", "with_group(groups, source, false)"),
     ("the file name within a script's body in classic", RECORDS, "        Mode::Classic => 0,", "        Mode::Classic => 1,"),
     ("the file name is bound anew", FINDING, "            Import::FileName => true,", "            Import::FileName => false,"),
     ("the room for notices is not looked at", LOWERING, "    if notice_room - state.notices < pen.notices {", "    if notice_room < pen.notices {"),

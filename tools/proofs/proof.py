@@ -7,6 +7,7 @@
     python3 tools/proofs/proof.py paths CRATE FUNCTION           each need, and the things on the way back from its `c` with their distances
     python3 tools/proofs/proof.py expand CRATE [FUNCTION..]      `@thing` in an answer becomes the path to it, `@@thing` the record of its place
     python3 tools/proofs/proof.py retarget CRATE [FUNCTION..]    after an edit of the code: paths lead to the same things again
+    python3 tools/proofs/proof.py name CRATE [FUNCTION..]        places that answers go back to get names; the two commands above do that too
 
 A round: write code and contract; check; skeleton; put `?` where `search` was refused, which otherwise costs seconds at every check; places; write the answers
 with `@thing`; expand; check. Before an edit of proved code: places. After it: places, retarget, check. docs/PROVING.md says more.
@@ -20,6 +21,7 @@ import sys
 
 sys.dont_write_bytecode = True
 sys.path.insert(0, os.path.dirname(os.path.abspath(__file__)))
+import naming  # noqa: E402
 import places  # noqa: E402
 from places import GENERATED, KEPT  # noqa: E402
 
@@ -92,10 +94,12 @@ def rewritten(crate, functions, line_of):
     for function, path in places.proof_files(crate, functions):
         with open(path, encoding="utf-8") as file:
             text = file.read()
-        lines = [line_of(function, member, what, line) if what and not line.startswith("--") else line for line, member, what in places.answers(text)]
-        if "\n".join(lines) != text:
+        paths_only = naming.rewritten(text, names=False)
+        lines = [line_of(function, member, what, line) if what and not line.startswith("--") else line for line, member, what in places.answers(paths_only)]
+        after = naming.rewritten("\n".join(lines))
+        if after != text:
             with open(path, "w", encoding="utf-8") as file:
-                file.write("\n".join(lines))
+                file.write(after)
             print("wrote", path)
 
 
@@ -139,8 +143,12 @@ def retarget(crate, *functions):
     rewritten(crate, functions, moved)
 
 
+def name(crate, *functions):
+    rewritten(crate, functions, lambda function, member, what, line: line)
+
+
 PATH = re.compile(r"(?<![\w.·\-])c((?: \.before)*)(?: \.([A-Za-z][\w\-·]*))?(?![\w·\-])")
-COMMANDS = {"check": check, "skeleton": skeleton, "places": write_places, "paths": paths, "expand": expand, "retarget": retarget}
+COMMANDS = {"check": check, "skeleton": skeleton, "places": write_places, "paths": paths, "expand": expand, "retarget": retarget, "name": name}
 
 
 def main():

@@ -1,5 +1,5 @@
 -- A command that was read off a tape takes no more bytes than the tape has: for a reader's answer c the law takes what the contract says, the
--- other way round, and gives `…Size c ≤ length t`.
+-- other way round, and gives `…Size c ≤ length t`. By its code alone no command takes more than nine bytes (`size-most`).
 -- Assumes nothing.
 use mathlib.Core.Path.{_≡_, refl, subst}
 use mathlib.Core.Bool.{Bool, true, false, cond, _&&_}
@@ -8,11 +8,12 @@ use Prim.Native.Nat.{ℕ, _≤_}
 use native.Mathlib.Omega.{arith}
 use lib.ListN.{length}
 use lib.Dec.{eqb, leb, ltb}
-use borrow.Author.Tests.{ltb-false}
+use borrow.Author.Tests.{leb-true, ltb-false}
 use Rattle.tape.specs.Numbers.{u16At}
 use Rattle.commands.specs.Opening.{flagsCommand, optionCommand}
 use Rattle.commands.specs.Root.{operands, scopeWith, heritageCommand, scopeCommand, nameCommand, memberCommand, attributeCommand, propertyCommand, valueCommand, childCommand}
-use Rattle.commands.specs.Sizes.{flagsSize, optionSize, heritageSize, scopeSize, nameSize, memberSize, attributeSize, propertySize, valueSize, childSize}
+use Rattle.commands.specs.Sizes.{rootCommands, sizeIn, commandSize, flagsSize, optionSize, heritageSize, scopeSize, nameSize, memberSize}
+use Rattle.commands.specs.Sizes.{attributeSize, propertySize, valueSize, childSize}
 use Rattle.commands.specs.declared.opening.FlagsCommand.{FlagsCommand}
 use Rattle.commands.specs.declared.opening.OptionCommand.{OptionCommand}
 use Rattle.commands.specs.declared.root.HeritageCommand.{HeritageCommand}
@@ -156,3 +157,23 @@ child-fits (b ∷ t) e =
     (choose P (eqb b 0x10) (with-operands P 8 t (omega arith) (λ h. omega arith))
     (choose P (eqb b 0x11) (with-operands P 8 t (omega arith) (λ h. omega arith))
     (choose P (eqb b 0x1f) (omega arith) (omega arith))))))))
+
+-- ---- by the code alone
+
+-- no size in the list is over m
+unfoldable upTo : ℕ → List (ℕ × ℕ) → Bool
+upTo m [] = true
+upTo m (c ∷ cs) = leb (c .1) m && upTo m cs
+
+size-within : (m code : ℕ) (cs : List (ℕ × ℕ)) → upTo m cs ≡ true → sizeIn cs code ≤ m
+unfolding upTo sizeIn
+size-within m code [] e = omega arith
+size-within m code (c ∷ cs) e = go (leb (c .1) m) refl e (size-within m code cs)
+  where
+    go : (b : Bool) → leb (c .1) m ≡ b → (b && upTo m cs) ≡ true → (upTo m cs ≡ true → sizeIn cs code ≤ m) → cond (eqb code (c .0)) (c .1) (sizeIn cs code) ≤ m
+    go true f g ih = choose (λ (n : ℕ). n ≤ m) (eqb code (c .0)) (leb-true (c .1) m f) (ih g)
+    go false f g ih = let z : _≡_ {A = ℕ} 0 1 = cc in absurd (omega arith)
+
+pub size-most : (code : ℕ) → commandSize code ≤ 9
+unfolding commandSize rootCommands upTo
+size-most code = size-within 9 code rootCommands refl

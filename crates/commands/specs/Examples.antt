@@ -18,6 +18,7 @@ use Rattle.commands.specs.declared.root.PropertyCommand.the-variants as 
 use Rattle.commands.specs.declared.root.ValueCommand.the-variants as value
 use Rattle.commands.specs.declared.root.ChildCommand.the-variants as child
 use Rattle.commands.specs.Opening.{flagsCommand, optionCommand}
+use Rattle.commands.specs.Sizes.{rootCommands, sizeIn, commandSize}
 use Rattle.commands.specs.Root.{heritageCommand, scopeCommand, nameCommand, memberCommand, attributeCommand, propertyCommand, valueCommand, childCommand}
 
 abbrev pub span : ℕ → ℕ → Span
@@ -275,3 +276,17 @@ pub children-cut :
     cut-at childCommand (0x10 ∷ 1 ∷ 0 ∷ 0 ∷ 0 ∷ 2 ∷ 1 ∷ 0 ∷ 0 ∷ []) (0 ∷ 1 ∷ 2 ∷ 3 ∷ 4 ∷ 5 ∷ 6 ∷ 7 ∷ 8 ∷ []) ≡ replicate 9 child.Cut
 unfolding childCommand
 children-cut = refl
+
+-- ---- sizes by the code
+
+-- what carries a kind, a place, nothing, a span, two spans, an expression, an expression and a span
+pub sizes-told :
+    map commandSize (0x01 ∷ 0x02 ∷ 0x10 ∷ 0x11 ∷ 0x1e ∷ 0x1f ∷ 0x20 ∷ 0x22 ∷ 0x23 ∷ 0x31 ∷ 0x33 ∷ 0x36 ∷ 0x41 ∷ 0x42 ∷ 0x43 ∷ 0x50 ∷ 0x51 ∷ [])
+    ≡ 2 ∷ 2 ∷ 9 ∷ 9 ∷ 1 ∷ 1 ∷ 5 ∷ 1 ∷ 9 ∷ 9 ∷ 3 ∷ 7 ∷ 5 ∷ 3 ∷ 1 ∷ 5 ∷ 3 ∷ []
+unfolding commandSize sizeIn rootCommands
+sizes-told = refl
+
+-- what begins no command of the root tape: gaps, a command of the opening tape, one of the call tape, the last byte
+pub sizes-none : map commandSize (0x00 ∷ 0x03 ∷ 0x12 ∷ 0x24 ∷ 0x37 ∷ 0x44 ∷ 0x52 ∷ 0x61 ∷ 0x80 ∷ 0xff ∷ []) ≡ replicate 10 0
+unfolding commandSize sizeIn rootCommands
+sizes-none = refl

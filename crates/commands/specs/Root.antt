@@ -1,4 +1,4 @@
--- Document 01, "Calls": the commands of the root tape, each set of them by the place where it may stand. Which command stands at the front of
+-- docs/TAPES.md, "Root tape": its commands, each set of them by the place where it may stand. Which command stands at the front of
 -- a part of the tape. Of a command that may not stand there `Wrong` is told first, then `Cut` (its operands are cut off, or the tape ends),
 -- then `Bad` (an operand is not allowed).
 use Prim.Native.Nat.{ℕ, _+_}

@@ -1,7 +1,9 @@
-// The commands of the opening tape. Each reader tests in the order of document 01: a command that may not stand there, operands cut off, an
-// operand that is not allowed.
+// The commands of the opening tape. Each reader tests in the order of docs/TAPES.md, "Refusals": a command that may not stand there,
+// operands cut off, an operand that is not allowed.
 ghost use mathlib.Core.Path.{_≡_};
 ghost use Rattle.commands.specs.Opening.{flagsCommand, optionCommand};
+use crate::codes;
+use crate::sizes;
 use tape::numbers::read_span;
 use tape::numbers::read_u16;
 use text::spans::Span;
@@ -25,27 +27,30 @@ pub enum OptionCommand {
     Cut,
 }
 
+// How many sets of the eight flags there are: all other bits are zero.
+const FLAG_SETS: u16 = 256;
+
 pub fn flags_command_at(tape: &[u8]) -> FlagsCommand
     ensures { λ r. ⌜ r ≡ flagsCommand (now (tape .entry)) ⌝ }
 {
     if tape.len() == 0 {
         return FlagsCommand::Cut;
     }
-    if tape[0] != 0x61 {
+    if tape[0] != codes::FLAGS {
         return FlagsCommand::Wrong;
     }
     let rest = &tape[1..];
-    if rest.len() < 2 {
+    if rest.len() < sizes::FLAGS {
         return FlagsCommand::Cut;
     }
     let flags = read_u16(rest, 0);
-    if flags < 256 {
+    if flags < FLAG_SETS {
         return FlagsCommand::Flags(flags);
     }
     FlagsCommand::Bad
 }
 
-// `last` is the last of 61 to 64 on the tape, 64 once a comment has come.
+// `last` is the code of the last option on the tape, FLAGS where none has come, IMPORT_SOURCE once a comment has.
 pub fn option_command_at(last: u8, tape: &[u8]) -> OptionCommand
     ensures { λ r. ⌜ r ≡ optionCommand last (now (tape .entry)) ⌝ }
 {
@@ -54,35 +59,35 @@ pub fn option_command_at(last: u8, tape: &[u8]) -> OptionCommand
     }
     let rest = &tape[1..];
     match tape[0] {
-        0x60 => {
-            if rest.len() < 4 {
+        codes::COMMENT => {
+            if rest.len() < sizes::SPAN {
                 return OptionCommand::Cut;
             }
             OptionCommand::Comment(read_span(rest, 0))
         }
-        0x62 => {
-            if last >= 0x62 {
+        codes::PRAGMA => {
+            if last >= codes::PRAGMA {
                 return OptionCommand::Wrong;
             }
-            if rest.len() < 4 {
+            if rest.len() < sizes::SPAN {
                 return OptionCommand::Cut;
             }
             OptionCommand::Pragma(read_span(rest, 0))
         }
-        0x63 => {
-            if last >= 0x63 {
+        codes::PRAGMA_FRAG => {
+            if last >= codes::PRAGMA_FRAG {
                 return OptionCommand::Wrong;
             }
-            if rest.len() < 4 {
+            if rest.len() < sizes::SPAN {
                 return OptionCommand::Cut;
             }
             OptionCommand::PragmaFrag(read_span(rest, 0))
         }
-        0x64 => {
-            if last >= 0x64 {
+        codes::IMPORT_SOURCE => {
+            if last >= codes::IMPORT_SOURCE {
                 return OptionCommand::Wrong;
             }
-            if rest.len() < 4 {
+            if rest.len() < sizes::SPAN {
                 return OptionCommand::Cut;
             }
             OptionCommand::ImportSource(read_span(rest, 0))

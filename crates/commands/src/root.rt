@@ -1,9 +1,11 @@
-// The commands of the root tape, a reader for each place where commands may stand. Each tests in the order of document 01: a command that may
-// not stand there, operands cut off, an operand that is not allowed.
+// The commands of the root tape, a reader for each place where commands may stand. Each tests in the order of docs/TAPES.md, "Refusals": a
+// command that may not stand there, operands cut off, an operand that is not allowed.
 ghost use mathlib.Core.Path.{_≡_};
 ghost use Prim.Native.Nat.{_+_, _≤_};
 ghost use lib.ListN.{length};
 ghost use Rattle.commands.specs.Root.{placeAt, heritageCommand, scopeCommand, nameCommand, memberCommand, attributeCommand, propertyCommand, valueCommand, childCommand};
+use crate::codes;
+use crate::sizes;
 use tape::numbers::read_span;
 use tape::numbers::read_u16;
 use tape::numbers::read_u32;
@@ -99,25 +101,31 @@ fn read_place(tape: &[u8], at: usize) -> Place
     }
 }
 
+// The heritages: 0 none, 1 a class without a superclass, 2 a class with one.
+const LAST_HERITAGE: u8 = 2;
+
 pub fn heritage_command_at(tape: &[u8]) -> HeritageCommand
     ensures { λ r. ⌜ r ≡ heritageCommand (now (tape .entry)) ⌝ }
 {
     if tape.len() == 0 {
         return HeritageCommand::Cut;
     }
-    if tape[0] != 0x01 {
+    if tape[0] != codes::HERITAGE {
         return HeritageCommand::Wrong;
     }
     let rest = &tape[1..];
-    if rest.len() < 1 {
+    if rest.len() < sizes::KIND {
         return HeritageCommand::Cut;
     }
     let kind = rest[0];
-    if kind > 2 {
+    if kind > LAST_HERITAGE {
         return HeritageCommand::Bad;
     }
     HeritageCommand::Heritage(kind)
 }
+
+// The kinds of scopes: 0 a block, 1 an arrow, 2 a constructor, 3 any other function.
+const LAST_SCOPE: u8 = 3;
 
 // `found`: a scope of kind 2 or 3 has come.
 pub fn scope_command_at(found: bool, tape: &[u8]) -> ScopeCommand
@@ -128,30 +136,30 @@ pub fn scope_command_at(found: bool, tape: &[u8]) -> ScopeCommand
     }
     let rest = &tape[1..];
     match tape[0] {
-        0x02 => {
-            if rest.len() < 1 {
+        codes::SCOPE => {
+            if rest.len() < sizes::KIND {
                 return ScopeCommand::Cut;
             }
             let kind = rest[0];
-            if kind > 3 {
+            if kind > LAST_SCOPE {
                 return ScopeCommand::Bad;
             }
             ScopeCommand::Scope(kind)
         }
-        0x10 => {
+        codes::ELEMENT => {
             if !found {
                 return ScopeCommand::Wrong;
             }
-            if rest.len() < 8 {
+            if rest.len() < sizes::PLACE {
                 return ScopeCommand::Cut;
             }
             ScopeCommand::Element(read_place(rest, 0))
         }
-        0x11 => {
+        codes::FRAGMENT => {
             if !found {
                 return ScopeCommand::Wrong;
             }
-            if rest.len() < 8 {
+            if rest.len() < sizes::PLACE {
                 return ScopeCommand::Cut;
             }
             ScopeCommand::Fragment(read_place(rest, 0))
@@ -168,24 +176,24 @@ pub fn name_command_at(tape: &[u8]) -> NameCommand
     }
     let rest = &tape[1..];
     match tape[0] {
-        0x20 => {
-            if rest.len() < 4 {
+        codes::TAG => {
+            if rest.len() < sizes::SPAN {
                 return NameCommand::Cut;
             }
             NameCommand::Plain(read_span(rest, 0))
         }
-        0x21 => {
-            if rest.len() < 4 {
+        codes::TAG_IDENTIFIER => {
+            if rest.len() < sizes::SPAN {
                 return NameCommand::Cut;
             }
             NameCommand::Identifier(read_span(rest, 0))
         }
-        0x22 => NameCommand::This,
-        0x23 => {
-            if rest.len() < 8 {
+        codes::TAG_THIS => NameCommand::This,
+        codes::TAG_NAMESPACED => {
+            if rest.len() < sizes::SPANS {
                 return NameCommand::Cut;
             }
-            NameCommand::Namespaced(read_span(rest, 0), read_span(rest, 4))
+            NameCommand::Namespaced(read_span(rest, 0), read_span(rest, sizes::SPAN))
         }
         _ => NameCommand::Wrong,
     }
@@ -197,11 +205,11 @@ pub fn member_command_at(tape: &[u8]) -> MemberCommand
     if tape.len() == 0 {
         return MemberCommand::Other;
     }
-    if tape[0] != 0x25 {
+    if tape[0] != codes::TAG_MEMBER {
         return MemberCommand::Other;
     }
     let rest = &tape[1..];
-    if rest.len() < 4 {
+    if rest.len() < sizes::SPAN {
         return MemberCommand::Cut;
     }
     MemberCommand::Member(read_span(rest, 0))
@@ -215,31 +223,31 @@ pub fn attribute_command_at(tape: &[u8]) -> AttributeCommand
     }
     let rest = &tape[1..];
     match tape[0] {
-        0x30 => {
-            if rest.len() < 4 {
+        codes::ATTRIBUTE => {
+            if rest.len() < sizes::SPAN {
                 return AttributeCommand::Cut;
             }
             AttributeCommand::Plain(read_span(rest, 0))
         }
-        0x31 => {
-            if rest.len() < 8 {
+        codes::ATTRIBUTE_NAMESPACED => {
+            if rest.len() < sizes::SPANS {
                 return AttributeCommand::Cut;
             }
-            AttributeCommand::Namespaced(read_span(rest, 0), read_span(rest, 4))
+            AttributeCommand::Namespaced(read_span(rest, 0), read_span(rest, sizes::SPAN))
         }
-        0x32 => {
-            if rest.len() < 2 {
+        codes::SPREAD_ATTRIBUTE => {
+            if rest.len() < sizes::EXPRESSION {
                 return AttributeCommand::Cut;
             }
             AttributeCommand::Spread(read_u16(rest, 0))
         }
-        0x33 => {
-            if rest.len() < 2 {
+        codes::LITERAL => {
+            if rest.len() < sizes::EXPRESSION {
                 return AttributeCommand::Cut;
             }
             AttributeCommand::Literal(read_u16(rest, 0))
         }
-        0x1e => AttributeCommand::End,
+        codes::END_ATTRIBUTES => AttributeCommand::End,
         _ => AttributeCommand::Wrong,
     }
 }
@@ -252,19 +260,19 @@ pub fn property_command_at(tape: &[u8]) -> PropertyCommand
     }
     let rest = &tape[1..];
     match tape[0] {
-        0x34 => {
-            if rest.len() < 2 {
+        codes::PROPERTY => {
+            if rest.len() < sizes::EXPRESSION {
                 return PropertyCommand::Cut;
             }
             PropertyCommand::Property(read_u16(rest, 0))
         }
-        0x36 => {
-            if rest.len() < 6 {
+        codes::NAMED_PROPERTY => {
+            if rest.len() < sizes::EXPRESSION_AND_SPAN {
                 return PropertyCommand::Cut;
             }
-            PropertyCommand::Named(read_u16(rest, 0), read_span(rest, 2))
+            PropertyCommand::Named(read_u16(rest, 0), read_span(rest, sizes::EXPRESSION))
         }
-        0x35 => PropertyCommand::End,
+        codes::END_LITERAL => PropertyCommand::End,
         _ => PropertyCommand::Wrong,
     }
 }
@@ -277,28 +285,28 @@ pub fn value_command_at(tape: &[u8]) -> ValueCommand
     }
     let rest = &tape[1..];
     match tape[0] {
-        0x40 => ValueCommand::Absent,
-        0x41 => {
-            if rest.len() < 4 {
+        codes::NO_VALUE => ValueCommand::Absent,
+        codes::STRING_VALUE => {
+            if rest.len() < sizes::SPAN {
                 return ValueCommand::Cut;
             }
             ValueCommand::Text(read_span(rest, 0))
         }
-        0x42 => {
-            if rest.len() < 2 {
+        codes::CONTAINER => {
+            if rest.len() < sizes::EXPRESSION {
                 return ValueCommand::Cut;
             }
             ValueCommand::Expression(read_u16(rest, 0))
         }
-        0x43 => ValueCommand::Empty,
-        0x10 => {
-            if rest.len() < 8 {
+        codes::EMPTY_CONTAINER => ValueCommand::Empty,
+        codes::ELEMENT => {
+            if rest.len() < sizes::PLACE {
                 return ValueCommand::Cut;
             }
             ValueCommand::Element(read_place(rest, 0))
         }
-        0x11 => {
-            if rest.len() < 8 {
+        codes::FRAGMENT => {
+            if rest.len() < sizes::PLACE {
                 return ValueCommand::Cut;
             }
             ValueCommand::Fragment(read_place(rest, 0))
@@ -315,38 +323,38 @@ pub fn child_command_at(tape: &[u8]) -> ChildCommand
     }
     let rest = &tape[1..];
     match tape[0] {
-        0x50 => {
-            if rest.len() < 4 {
+        codes::TEXT => {
+            if rest.len() < sizes::SPAN {
                 return ChildCommand::Cut;
             }
             ChildCommand::Text(read_span(rest, 0))
         }
-        0x42 => {
-            if rest.len() < 2 {
+        codes::CONTAINER => {
+            if rest.len() < sizes::EXPRESSION {
                 return ChildCommand::Cut;
             }
             ChildCommand::Expression(read_u16(rest, 0))
         }
-        0x43 => ChildCommand::Empty,
-        0x51 => {
-            if rest.len() < 2 {
+        codes::EMPTY_CONTAINER => ChildCommand::Empty,
+        codes::SPREAD_CHILD => {
+            if rest.len() < sizes::EXPRESSION {
                 return ChildCommand::Cut;
             }
             ChildCommand::Spread(read_u16(rest, 0))
         }
-        0x10 => {
-            if rest.len() < 8 {
+        codes::ELEMENT => {
+            if rest.len() < sizes::PLACE {
                 return ChildCommand::Cut;
             }
             ChildCommand::Element(read_place(rest, 0))
         }
-        0x11 => {
-            if rest.len() < 8 {
+        codes::FRAGMENT => {
+            if rest.len() < sizes::PLACE {
                 return ChildCommand::Cut;
             }
             ChildCommand::Fragment(read_place(rest, 0))
         }
-        0x1f => ChildCommand::End,
+        codes::END => ChildCommand::End,
         _ => ChildCommand::Wrong,
     }
 }

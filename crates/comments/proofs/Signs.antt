@@ -15,7 +15,8 @@ use lib.Dec.{ltb}
 use borrow.Author.Tests.{ltb-true, ltb-false}
 use Rattle.text.specs.declared.bytes.Found.{Found}
 use Rattle.text.specs.declared.bytes.Found.the-variants.{At, Nothing}
-use Rattle.definitions.specs.Comments.{isAt, isBlank, placeFrom, Keyword, jsx, frag, importSource, runtime, unknown, keywordOf, Search, pragma, nothing, counts, onKeyword, onWord, onSign, seek}
+use Rattle.definitions.specs.Comments.{isAt, isBlank, placeFrom, Keyword, jsx, frag, importSource, runtime, unknown, keywordOf, Search, pragma}
+use Rattle.definitions.specs.Comments.{nothing, counts, onKeyword, onWord, onSign, seek}
 use Rattle.text.specs.Bytes.{ascii, same}
 use Rattle.tape.specs.Numbers.{u32At}
 use Rattle.text.proofs.Lists.{drop-one}

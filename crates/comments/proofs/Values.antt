@@ -17,7 +17,8 @@ use Rattle.text.specs.declared.spans.Span.{Span}
 use Rattle.text.specs.Bytes.{findFrom}
 use Rattle.text.specs.Spans.{partOf}
 use Rattle.definitions.specs.declared.options.Options.{Options}
-use Rattle.definitions.specs.Comments.{isAt, isBlank, isWhite, placeFrom, orElse, Keyword, Search, pragma, nothing, seek, valueStart, valueOf, applied, onValue, onSearch, commentFrom}
+use Rattle.definitions.specs.Comments.{isAt, isBlank, isWhite, placeFrom, orElse, Keyword, Search, pragma, nothing, seek, valueStart, valueOf, applied}
+use Rattle.definitions.specs.Comments.{onValue, onSearch, commentFrom}
 use Rattle.text.proofs.Searching.{find-end}
 use Rattle.comments.specs.Searches.{PragmaValue, some, none, pragmaBy, valueFrom, pragmaOf, pragmaFrom}
 use Rattle.comments.proofs.Signs.{place-range, seek-none, Later, seek-after}
@@ -25,7 +26,8 @@ use Rattle.comments.proofs.Signs.{place-range, seek-none, Later, seek-a
 -- ---- where the value lies
 value-range : (c : List ℕ) (a : ℕ) → a ≤ length c → (a ≤ valueStart c a) × (valueStart c a ≤ length c)
 unfolding orElse
-value-range c a h = go (placeFrom (λ b. not (isBlank b)) c a) refl
+value-range c a h =
+    go (placeFrom (λ b. not (isBlank b)) c a) refl
   where
     go : (f : Found) → placeFrom (λ b. not (isBlank b)) c a ≡ f → (a ≤ orElse (length c) f) × (orElse (length c) f ≤ length c)
     go (At i) e = omega (arith, place-range (λ b. not (isBlank b)) c a i e)

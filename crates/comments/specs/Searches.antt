@@ -1,4 +1,4 @@
--- What the steps of the pragma search give, in the terms of document 01's definitions.
+-- What the steps of the pragma search give, in the terms of crate `definitions`.
 use Prim.Native.Nat.{ℕ, _+_, _-_}
 use mathlib.Core.Bool.{Bool, cond, not, _||_}
 use mathlib.Core.List.{List, [], _∷_}

@@ -13,6 +13,8 @@ ghost use lib.ListN.{length, drop};
 ghost use Rattle.definitions.specs.Comments.{leadsIn, placeFrom, keywordOf, seek, valueOf, withRuntime, applied, withComment, withComments};
 ghost use Rattle.comments.specs.Searches.{isIn, stands, fourAt, byteAt, pragmaType, knownFor, keywordFor, searchFor, pragmaBy, pragmaFrom};
 ghost use Rattle.comments.specs.Tapes.{commentsOf};
+use commands::codes;
+use commands::sizes;
 use definitions::options::Flags;
 use definitions::options::Optional;
 use definitions::options::Options;
@@ -353,18 +355,18 @@ fn update_options_with_comment(text: &[u8], options: Options, comment: Span) -> 
     }
 }
 
-// The options after the comments of an opening tape, in order. Its other commands, which have five bytes too, are passed over.
+// The options after the comments of an opening tape, in order. Its other commands behind the flags, which carry a span too, are passed over.
 pub fn update_options_with_comments(text: &[u8], options: Options, tape: &[u8]) -> Options
     requires { ⌜ length (now text) ≤ 65535 ⌝ }
     ensures { λ r. ⌜ r ≡ withComments (now (text .entry)) options (commentsOf (drop 3 (now (tape .entry)))) ⌝ }
 {
     let mut held = options;
-    let mut i = 3;
-    while i + 5 <= tape.len() {
+    let mut i = sizes::WITH_FLAGS;
+    while i + sizes::WITH_SPAN <= tape.len() {
         let at = i;
-        i += 5;
-        if tape[at] == 0x60 {
-            held = update_options_with_comment(text, held, read_span(tape, at + 1));
+        i += sizes::WITH_SPAN;
+        if tape[at] == codes::COMMENT {
+            held = update_options_with_comment(text, held, read_span(tape, at + sizes::BARE));
         }
     }
     held

@@ -14,16 +14,23 @@ use Rattle.definitions.specs.declared.options.Mode.{Mode}
 use Rattle.definitions.specs.declared.options.Mode.the-variants.{Module, Script, Classic}
 use Rattle.definitions.specs.declared.options.Settings.{Settings}
 use Rattle.definitions.specs.declared.records.Import.the-variants.{FileName}
-use Rattle.definitions.specs.Tree.{Node, element, fragment, Attributes, noAttributes, attribute, namespacedAttribute, spread, literal, Value, absent, string, expression, empty, nodeValue, Children, noChildren, textChild, expressionChild, emptyChild, spreadChild, nodeChild, Root}
+use Rattle.definitions.specs.Tree.{Node, element, fragment, Attributes, noAttributes, attribute, namespacedAttribute, spread, literal, Value}
+use Rattle.definitions.specs.Tree.{absent, string, expression, empty, nodeValue, Children, noChildren, textChild, expressionChild, emptyChild}
+use Rattle.definitions.specs.Tree.{spreadChild, nodeChild, Root}
 use Rattle.definitions.specs.JsxText.{jsxText}
 use Rattle.definitions.specs.Calls.{Bare, source}
 use Rattle.definitions.specs.Calls as call
 use Rattle.definitions.specs.Store.{fragmentName, createElement, jsx, jsxs, jsxDev, sourceOf, canName, canImport, canRequire, canBind}
 use Rattle.definitions.specs.States.{allBindable}
-use Rattle.definitions.specs.Lowering.{Context, Output, emit, put, imported, fragmentTag, isKey, hasValue, hasProto, survivors, hasSpread, formOf, childrenProperty, sourceOutput, selfOutput, development, isClassic, pureByte, closing, automaticName, automaticCall, objectOf, classicCall, pluginsOff, isLast, loneSpreadOr, classicElement, lowerNode, lowerAttributes, lowerKey, lowerValue, lowerChildren, canAddSelf, lowerRoot, commandsOf}
+use Rattle.definitions.specs.Lowering.{Context, Output, emit, put, imported, fragmentTag, isKey, hasValue, hasProto, survivors, hasSpread}
+use Rattle.definitions.specs.Lowering.{formOf, childrenProperty, sourceOutput, selfOutput, development, isClassic, pureByte, closing}
+use Rattle.definitions.specs.Lowering.{automaticName, automaticCall, objectOf, classicCall, pluginsOff, isLast, loneSpreadOr, classicElement}
+use Rattle.definitions.specs.Lowering.{lowerNode, lowerAttributes, lowerKey, lowerValue, lowerChildren, canAddSelf, lowerRoot, commandsOf}
 use Rattle.definitions.proofs.Numbering.{importsOf, imports-append}
 use Rattle.definitions.proofs.Soundness.{bindable-append}
-use Rattle.definitions.proofs.Plain.{Plain, none, plain-byte, plain-over, commands-append, plain-imports, plain-colonized, plain-name, plain-literal, plain-attribute, plain-notice, plain-string, plain-text, plain-self, plain-static, plain-no-key}
+use Rattle.definitions.proofs.Plain.{Plain, none, plain-byte, plain-over, commands-append, plain-imports, plain-colonized, plain-name}
+use Rattle.definitions.proofs.Plain.{plain-literal, plain-attribute, plain-notice, plain-string, plain-text, plain-self, plain-static}
+use Rattle.definitions.proofs.Plain.{plain-no-key}
 
 pub record Fits (c : Context) (os : List Output) : Type 0 where
   pub so : allBindable (c .settings) (importsOf (commandsOf os)) ≡ true
@@ -34,7 +41,14 @@ module _ {c : Context} where
   _with_ {xs} {ys} h k =
       record {
         so =
-            rw (commands-append xs ys, imports-append (commandsOf xs) (commandsOf ys), bindable-append (c .settings) (importsOf (commandsOf xs)) (importsOf (commandsOf ys)), h .so, k .so);
+            rw (
+              commands-append xs ys,
+              imports-append (commandsOf xs) (commandsOf ys),
+              bindable-append (c .settings) (importsOf (commandsOf xs))
+                  (importsOf (commandsOf ys)),
+              h .so,
+              k .so,
+            );
       }
 
   plain-fits : {os : List Output} → Plain os → Fits c os

@@ -17,15 +17,23 @@ use Rattle.text.specs.Spans.{partOf}
 use Rattle.commands.specs.declared.root.Place.{Place}
 use Rattle.definitions.specs.declared.options.Settings.{Settings}
 use Rattle.definitions.specs.declared.records.Import.{Import}
-use Rattle.definitions.specs.Tree.{Name, Node, element, fragment, Attributes, noAttributes, attribute, namespacedAttribute, spread, literal, Value, absent, string, expression, empty, nodeValue, Children, noChildren, textChild, expressionChild, emptyChild, spreadChild, nodeChild, Root}
+use Rattle.definitions.specs.Tree.{Name, Node, element, fragment, Attributes, noAttributes, attribute, namespacedAttribute, spread, literal}
+use Rattle.definitions.specs.Tree.{Value, absent, string, expression, empty, nodeValue, Children, noChildren, textChild, expressionChild}
+use Rattle.definitions.specs.Tree.{emptyChild, spreadChild, nodeChild, Root}
 use Rattle.definitions.specs.JsxText.{jsxText}
 use Rattle.definitions.specs.Calls.{Command, bareCode}
 use Rattle.definitions.specs.Calls as call
 use Rattle.definitions.specs.Store.{fragmentName, createElement, jsx, jsxs, jsxDev}
-use Rattle.definitions.specs.Lowering.{Context, Output, put, putByte, isKey, hasValue, keyNotice, attributeName, keyAfterSpread, survivors, hasSpread, formOf, childrenProperty, sourceOutput, selfOutput, development, noKey, isClassic, automaticName, automaticCall, objectOf, classicCall, isLast, loneSpreadOr, lowerNode, lowerAttributes, lowerKey, lowerValue, lowerChildren, lowerName, canAddSelf, lowerRoot, commandsOf}
-use Rattle.definitions.specs.Callees.{keyMark, otherMark, marksOf, anyKey, keyFollowsSpread, surviving, calleeOfNode, given, laterValuedKey, calleesIn, calleesInValues, calleesInKey, calleesInValue, calleesInChildren, calleesOfRoots, Callee, calleeNamed}
+use Rattle.definitions.specs.Lowering.{Context, Output, put, putByte, isKey, hasValue, keyNotice, attributeName, keyAfterSpread, survivors}
+use Rattle.definitions.specs.Lowering.{hasSpread, formOf, childrenProperty, sourceOutput, selfOutput, development, noKey, isClassic}
+use Rattle.definitions.specs.Lowering.{automaticName, automaticCall, objectOf, classicCall, isLast, loneSpreadOr, lowerNode, lowerAttributes}
+use Rattle.definitions.specs.Lowering.{lowerKey, lowerValue, lowerChildren, lowerName, canAddSelf, lowerRoot, commandsOf}
+use Rattle.definitions.specs.Callees.{keyMark, otherMark, marksOf, anyKey, keyFollowsSpread, surviving, calleeOfNode, given, laterValuedKey}
+use Rattle.definitions.specs.Callees.{calleesIn, calleesInValues, calleesInKey, calleesInValue, calleesInChildren, calleesOfRoots, Callee}
+use Rattle.definitions.specs.Callees.{calleeNamed}
 use Rattle.definitions.proofs.Counting.{never}
-use Rattle.definitions.proofs.Plain.{none, plain-put, plain-byte, plain-over, plain-colonized, plain-name, plain-literal, plain-attribute, plain-notice, plain-string, plain-text, plain-self, plain-static, plain-no-key, _and_}
+use Rattle.definitions.proofs.Plain.{none, plain-put, plain-byte, plain-over, plain-colonized, plain-name, plain-literal, plain-attribute}
+use Rattle.definitions.proofs.Plain.{plain-notice, plain-string, plain-text, plain-self, plain-static, plain-no-key, _and_}
 use Rattle.definitions.proofs.Survival.{survivors-surviving}
 use Rattle.definitions.proofs.SymbolicCallees.{calleesOf, Reads, _joined_, _still_, _onward_, quiet-onward, plain-reads, source-reads, tag-reads, closing-reads}
 

@@ -27,7 +27,9 @@ use Rattle.text.proofs.Boundaries.{cuts-boundary, boundary-next}
 use Rattle.definitions.specs.declared.options.Optional.{Optional}
 use Rattle.definitions.specs.declared.options.Optional.the-variants.{Present}
 use Rattle.definitions.specs.declared.options.Options.{Options}
-use Rattle.definitions.specs.Comments.{isBlank, isWhite, isAt, placeFrom, orElse, Keyword, jsx, frag, importSource, runtime, unknown, keywordOf, Search, pragma, nothing, counts, onKeyword, onWord, onSign, seek, valueStart, valueOf, setsPair, applied, onValue, onSearch, commentFrom, withComment, withComments}
+use Rattle.definitions.specs.Comments.{isBlank, isWhite, isAt, placeFrom, orElse, Keyword, jsx, frag, importSource, runtime, unknown, keywordOf}
+use Rattle.definitions.specs.Comments.{Search, pragma, nothing, counts, onKeyword, onWord, onSign, seek, valueStart, valueOf, setsPair, applied}
+use Rattle.definitions.specs.Comments.{onValue, onSearch, commentFrom, withComment, withComments}
 use Rattle.definitions.specs.States.{inOrder, borneOut, spansBorneOut}
 use Rattle.definitions.proofs.Counting.{never, both}
 
@@ -171,7 +173,8 @@ pragma-behind (suc n) c i k j e = on-sign (placeFrom isAt c i) e (λ m h. pragma
 -- the first byte behind blanks stands behind a blank
 pub value-begins : (c : List ℕ) (j : ℕ) → Behind c j → valueStart c j < length c → Behind c (valueStart c j)
 unfolding orElse
-value-begins c j b h = go (placeFrom (λ x. not (isBlank x)) c j) refl h
+value-begins c j b h =
+    go (placeFrom (λ x. not (isBlank x)) c j) refl h
   where
     go : (f : Found) → placeFrom (λ x. not (isBlank x)) c j ≡ f → orElse (length c) f < length c → Behind c (orElse (length c) f)
     go found.Nothing e h = absurd (omega arith)
@@ -199,7 +202,8 @@ pub value-ends : (c : List ℕ) (i : ℕ) → i ≤ length c
     → (i + length (valueOf (drop i c)) < length c → isWhite (getD c (i + length (valueOf (drop i c))) 0) ≡ true → A)
     → A
 unfolding orElse
-value-ends c i h f g = go (findFrom isWhite 0 (drop i c)) refl f g
+value-ends c i h f g =
+    go (findFrom isWhite 0 (drop i c)) refl f g
   where
     go : (w : Found) → findFrom isWhite 0 (drop i c) ≡ w → {A : Type 0}
         → (i + length (take (orElse (length (drop i c)) w) (drop i c)) ≡ length c → A)

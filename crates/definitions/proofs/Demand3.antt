@@ -18,7 +18,7 @@ use Rattle.definitions.specs.Store.{boundAfter, numberedAll}
 use Rattle.definitions.specs.Lowering.{isClassic}
 use Rattle.definitions.specs.Records.{placeIn, Entry}
 use Rattle.definitions.specs.States.{live, unrepeated}
-use Rattle.definitions.specs.Entries.{recordsFrom, judgeRecords, recordsAnswer, recordsTarget}
+use Rattle.definitions.specs.Entries.{recordsFrom, judgeWriting, judgeRecords, recordsAnswer, recordsTarget}
 use Rattle.definitions.specs.Series.{World, opening, series, acceptedIn, treesOf, callsSoFar, noticesSoFar}
 use Rattle.definitions.specs.Callees.{calleeNamed, calleesOfRoots, calleesRead}
 use Rattle.definitions.specs.Claim.{mentioned, recordsTape, recordsSoFar, count, isOf, shares, says, Demand3}
@@ -32,7 +32,8 @@ use Rattle.definitions.proofs.EntryBytes.{tape-bytes}
 use Rattle.definitions.proofs.BoundEntries.{entriesFor, of-below, of-once, shared-once, more-entries}
 use Rattle.definitions.proofs.CalleeTree.{commandsOfRoots, all-callees}
 use Rattle.definitions.proofs.CalleeRecords.{callees-read}
-use Rattle.definitions.proofs.RootSeries.{noticesOfRoots, commands-roots, calls-of-all, notices-of-all, calls-roots, notice-roots, Came, opened, refused-same, came, series-append}
+use Rattle.definitions.proofs.RootSeries.{noticesOfRoots, commands-roots, calls-of-all, notices-of-all, calls-roots, notice-roots, Came, opened}
+use Rattle.definitions.proofs.RootSeries.{refused-same, came, series-append}
 
 -- ---- a series that has come to the commands of some roots
 
@@ -79,7 +80,7 @@ module _ (text : List ℕ) (s : Settings) (w : World) (rs : List Root) (c : Came
 
   -- the records are written where there is space
   writes : Opens text s → (room : ℕ) → length (recordsTape w) ≤ room → judgeRecords text (w .state) room ≡ accepted (recordsTape w)
-  unfolding judgeRecords refuse refuseAt
+  unfolding judgeRecords judgeWriting refuse refuseAt
   writes o room h = rw (o .short, o .well-formed, c .bore, le-ltb room (length (recordsTape w)) h)
 
 -- ---- and what comes later

@@ -12,7 +12,9 @@ use Rattle.definitions.specs.declared.options.Mode.{Mode}
 use Rattle.definitions.specs.declared.records.Import.{Import}
 use Rattle.definitions.specs.declared.records.Import.the-variants.{Named, Default, FileName}
 use Rattle.definitions.specs.declared.records.Record.{Record}
-use Rattle.definitions.specs.Records.{without, isAmong, withGroup, groupedBy, groupsFrom, entryIn, entriesIn, groupTape, placeIn, fileNameEntry, fileNameTape, recordTape, Entry, named, required, file, readRecords, Group, outside, within, groupHead, entryBytes}
+use Rattle.definitions.specs.Records.{without, isAmong, withGroup, groupedBy, groupsFrom, entryIn, entriesIn, groupTape, placeIn, fileNameEntry}
+use Rattle.definitions.specs.Records.{fileNameTape, recordTape, Entry, named, required, file, readRecords, Group, outside, within, groupHead}
+use Rattle.definitions.specs.Records.{entryBytes}
 use Rattle.definitions.specs.Claim.{count}
 use Rattle.definitions.proofs.Counting.{never}
 use Rattle.definitions.proofs.TapeEntries.{inGroup, allInGroup, groupEntries, fileEntry, fileEntries, tape-read, Distinct, distinct-groups}

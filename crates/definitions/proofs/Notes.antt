@@ -17,7 +17,9 @@ use Rattle.text.specs.Spans.{partOf}
 use Rattle.commands.specs.declared.root.Place.{Place}
 use Rattle.definitions.specs.declared.options.Mode.{Mode}
 use Rattle.definitions.specs.declared.options.Mode.the-variants.{Module, Script, Classic}
-use Rattle.definitions.specs.Tree.{Name, Property, unnamed, propName, Node, element, fragment, Attributes, noAttributes, attribute, namespacedAttribute, spread, literal, Value, absent, string, expression, empty, nodeValue, Children, noChildren, textChild, expressionChild, emptyChild, spreadChild, nodeChild, Root}
+use Rattle.definitions.specs.Tree.{Name, Property, unnamed, propName, Node, element, fragment, Attributes, noAttributes, attribute}
+use Rattle.definitions.specs.Tree.{namespacedAttribute, spread, literal, Value, absent, string, expression, empty, nodeValue, Children}
+use Rattle.definitions.specs.Tree.{noChildren, textChild, expressionChild, emptyChild, spreadChild, nodeChild, Root}
 use Rattle.definitions.specs.Tree as tree
 use Rattle.definitions.specs.Judging.{done}
 use Rattle.definitions.specs.Reading.{readRoot}
@@ -26,7 +28,12 @@ use Rattle.definitions.specs.declared.records.Import.{Import}
 use Rattle.definitions.specs.JsxText.{jsxText}
 use Rattle.definitions.specs.Calls.{Notice, valuelessKey, namespacedTag, noticeBytesOf, noticeBytes}
 use Rattle.definitions.specs.Calls as call
-use Rattle.definitions.specs.Lowering.{Context, Output, emit, notify, noticesOf, put, putOver, putSpan, piece, joined, colonized, members, lowerName, imported, fragmentTag, isKey, hasValue, hasProto, carried, lowerLiteral, isFound, attributeName, keyNotice, survivors, hasSpread, formOf, childrenProperty, lowerText, sourceOutput, selfOutput, staticChildren, noKey, isClassic, closing, automaticName, automaticCall, objectOf, classicCall, pluginsOff, isLast, loneSpreadOr, classicElement, lowerNode, lowerAttributes, lowerKey, lowerValue, lowerChildren, canAddSelf, lowerRoot}
+use Rattle.definitions.specs.Lowering.{Context, Output, emit, notify, noticesOf, put, putOver, putSpan, piece, joined, colonized, members}
+use Rattle.definitions.specs.Lowering.{lowerName, imported, fragmentTag, isKey, hasValue, hasProto, carried, lowerLiteral, isFound}
+use Rattle.definitions.specs.Lowering.{attributeName, keyNotice, survivors, hasSpread, formOf, childrenProperty, lowerText, sourceOutput}
+use Rattle.definitions.specs.Lowering.{selfOutput, staticChildren, noKey, isClassic, closing, automaticName, automaticCall, objectOf}
+use Rattle.definitions.specs.Lowering.{classicCall, pluginsOff, isLast, loneSpreadOr, classicElement, lowerNode, lowerAttributes, lowerKey}
+use Rattle.definitions.specs.Lowering.{lowerValue, lowerChildren, canAddSelf, lowerRoot}
 use Rattle.definitions.specs.Entries.{loweredAfter}
 use Rattle.definitions.proofs.TreeSizes.{root-size}
 use Rattle.definitions.proofs.Weights.{sizeName, sizeProperties, sizeNode, sizeAttributes, sizeValue, sizeChildren}

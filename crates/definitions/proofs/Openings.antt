@@ -26,7 +26,8 @@ use Rattle.definitions.specs.declared.options.Form.{Form}
 use Rattle.definitions.specs.declared.options.Options.{Options}
 use Rattle.definitions.specs.declared.options.Settings.{Settings}
 use Rattle.definitions.specs.Judging.{Parsed, done, stop, from, spanned, accepted, tooLong}
-use Rattle.definitions.specs.Opening.{Opening, bare, withPragma, withPragmaFrag, withImportSource, andComment, optionBy, optionsFrom, openingBy, readOpening, optionsOf, settingsOf, overAsciiIn, ifClassic, pragmasChecked, judgeOpening}
+use Rattle.definitions.specs.Opening.{Opening, bare, withPragma, withPragmaFrag, withImportSource, andComment, optionBy, optionsFrom, openingBy}
+use Rattle.definitions.specs.Opening.{readOpening, optionsOf, settingsOf, overAsciiIn, ifClassic, pragmasChecked, judgeOpening}
 use Rattle.definitions.specs.States.{inOrder, borneOut, rootNumber, sameForm, formBorneOut, numberedFrom, unrepeated, allBindable, sound}
 use Rattle.definitions.specs.Entries.{openState}
 use Rattle.definitions.proofs.Counting.{either-false}

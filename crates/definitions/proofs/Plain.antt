@@ -19,7 +19,9 @@ use Rattle.definitions.specs.Tree as tree
 use Rattle.definitions.specs.Calls.{Bare, WithByte, WithExpression, WithSpan, Command, bare, byte, over, span, binding, source, bareCode, Notice, valuelessKey, namespacedTag}
 use Rattle.definitions.specs.Calls as call
 use Rattle.definitions.specs.Callees.{isCallee}
-use Rattle.definitions.specs.Lowering.{Context, Output, emit, notify, put, putByte, putOver, putSpan, piece, quoted, joined, colonized, members, lowerName, isKey, hasValue, hasProto, carried, lowerLiteral, isFound, attributeName, keyNotice, lowerText, selfOutput, development, staticChildren, noKey, commandsOf}
+use Rattle.definitions.specs.Lowering.{Context, Output, emit, notify, put, putByte, putOver, putSpan, piece, quoted, joined, colonized, members}
+use Rattle.definitions.specs.Lowering.{lowerName, isKey, hasValue, hasProto, carried, lowerLiteral, isFound, attributeName, keyNotice, lowerText}
+use Rattle.definitions.specs.Lowering.{selfOutput, development, staticChildren, noKey, commandsOf}
 use Rattle.definitions.proofs.Counting.{never, both}
 use Rattle.definitions.proofs.Numbering.{importsOf}
 

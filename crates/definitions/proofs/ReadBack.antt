@@ -15,7 +15,12 @@ use Rattle.commands.specs.declared.root.Place.{Place}
 use Rattle.tape.specs.Numbers.{u16Bytes, u32Bytes, spanBytes}
 use Rattle.commands.specs.Root.{placeAt}
 use Rattle.tape.proofs.ReadBack.{u16-back, u32-back, span-back}
-use Rattle.definitions.specs.Calls.{Bare, objectBegin, objectEnd, stringName, null, stringBegin, space, stringEnd, colon, literalTrue, literalFalse, voidZero, this, childrenBegin, key, tag, callee, self, WithByte, call, childrenEnd, pragma, member, callEnd, WithExpression, spreadProperty, carried, soleSpread, expression, spreadItem, WithSpan, name, piece, identifier, memberName, Command, bare, byte, over, span, binding, source, bareCode, byteCode, expressionCode, spanCode, bytesOf, callBytes, Kind, isBare, isByte, isOver, isSpan, isBinding, isSource, isNone, lookup, kinds, taking, readBy, readFirst, readFrom, readCalls}
+use Rattle.definitions.specs.Calls.{Bare, objectBegin, objectEnd, stringName, null, stringBegin, space, stringEnd, colon, literalTrue}
+use Rattle.definitions.specs.Calls.{literalFalse, voidZero, this, childrenBegin, key, tag, callee, self, WithByte, call, childrenEnd, pragma}
+use Rattle.definitions.specs.Calls.{member, callEnd, WithExpression, spreadProperty, carried, soleSpread, expression, spreadItem, WithSpan, name}
+use Rattle.definitions.specs.Calls.{piece, identifier, memberName, Command, bare, byte, over, span, binding, source, bareCode, byteCode}
+use Rattle.definitions.specs.Calls.{expressionCode, spanCode, bytesOf, callBytes, Kind, isBare, isByte, isOver, isSpan, isBinding, isSource}
+use Rattle.definitions.specs.Calls.{isNone, lookup, kinds, taking, readBy, readFirst, readFrom, readCalls}
 
 kind-of-bare : (c : Bare) → lookup (bareCode c) kinds ≡ isBare c
 unfolding lookup bareCode
@@ -62,8 +67,7 @@ kind-of-span memberName = refl
 
 -- operands that are all there
 taking-all : (ops t : List ℕ) (c : Command ℕ) (next : List ℕ → List (Command ℕ)) → taking (length ops) (ops ++ t) c next ≡ c ∷ next t
-taking-all ops t c next =
-    rw (le-ltb (length (ops ++ t)) (length ops) (omega (arith, length-append ops t)), drop-append-seam ops t)
+taking-all ops t c next = rw (le-ltb (length (ops ++ t)) (length ops) (omega (arith, length-append ops t)), drop-append-seam ops t)
 
 place-back : (b : ℕ) (p : Place) (t : List ℕ) → placeAt (b ∷ (u32Bytes (p .line) ++ u32Bytes (p .column)) ++ t) 1 ≡ p
 place-back b p t =

@@ -63,7 +63,13 @@ pub _joined_ : {xs ys : List Output} {ns ms : List ℕ} → Reads xs ns → Read
 _joined_ {xs} {ys} {ns} {ms} h k =
     record {
       so = λ rest.
-          rw (commands-append xs ys, append-assoc (commandsOf xs) (commandsOf ys) rest, map-append calleeNamed ns ms, append-assoc (map calleeNamed ns) (map calleeNamed ms) (calleesOf rest))
+          rw (
+            commands-append xs ys,
+            append-assoc (commandsOf xs) (commandsOf ys) rest,
+            map-append calleeNamed ns ms,
+            append-assoc
+                (map calleeNamed ns) (map calleeNamed ms) (calleesOf rest),
+          )
           (h .so (commandsOf ys ++ rest) ∙ ap (λ (l : List Callee). map calleeNamed ns ++ l) (k .so rest));
     }
 

@@ -15,7 +15,8 @@ use Rattle.definitions.specs.declared.options.Mode.{Mode}
 use Rattle.definitions.specs.declared.records.Import.{Import}
 use Rattle.definitions.specs.declared.records.Import.the-variants.{Named, Default, FileName}
 use Rattle.definitions.specs.declared.records.Record.{Record}
-use Rattle.definitions.specs.Records.{without, isAmong, withGroup, groupedBy, groupsFrom, entryIn, entriesIn, groupTape, placeIn, fileNameEntry, fileNameTape, recordTape, Entry, named, required, file, command, entriesFrom, readRecords}
+use Rattle.definitions.specs.Records.{without, isAmong, withGroup, groupedBy, groupsFrom, entryIn, entriesIn, groupTape, placeIn, fileNameEntry}
+use Rattle.definitions.specs.Records.{fileNameTape, recordTape, Entry, named, required, file, command, entriesFrom, readRecords}
 use Rattle.definitions.specs.Claim.{count}
 use Rattle.definitions.proofs.Counting.{never, count-nil, count-append}
 

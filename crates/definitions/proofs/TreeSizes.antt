@@ -36,8 +36,12 @@ use Rattle.commands.specs.declared.root.ChildCommand.{ChildCommand}
 use Rattle.commands.specs.declared.root.ChildCommand.the-variants as children
 use Rattle.commands.specs.Root.{heritageCommand, scopeCommand, nameCommand, memberCommand, attributeCommand, propertyCommand, valueCommand, childCommand}
 use Rattle.definitions.specs.Judging.{Parsed, done, stop, _then_, map, from, spanned, named, worse}
-use Rattle.definitions.specs.Tree.{Name, plain, identifier, this, namespaced, Property, unnamed, propName, Node, element, fragment, Attributes, noAttributes, attribute, namespacedAttribute, spread, literal, Value, absent, string, expression, empty, nodeValue, Children, noChildren, textChild, expressionChild, emptyChild, spreadChild, nodeChild, Root}
-use Rattle.definitions.specs.Reading.{ampersand, lettered, opened, membersBy, nameBy, propertiesBy, attributesBy, valueBy, childrenBy, membersAt, nameAt, propertiesAt, elementAt, fragmentAt, attributesAt, valueAt, childrenAt, isFunction, Scoped, inScope, unscoped, scopesBy, scopesAt, rootBy, whole, readRoot}
+use Rattle.definitions.specs.Tree.{Name, plain, identifier, this, namespaced, Property, unnamed, propName, Node, element, fragment, Attributes}
+use Rattle.definitions.specs.Tree.{noAttributes, attribute, namespacedAttribute, spread, literal, Value, absent, string, expression, empty}
+use Rattle.definitions.specs.Tree.{nodeValue, Children, noChildren, textChild, expressionChild, emptyChild, spreadChild, nodeChild, Root}
+use Rattle.definitions.specs.Reading.{ampersand, lettered, opened, membersBy, nameBy, propertiesBy, attributesBy, valueBy, childrenBy, membersAt}
+use Rattle.definitions.specs.Reading.{nameAt, propertiesAt, elementAt, fragmentAt, attributesAt, valueAt, childrenAt, isFunction, Scoped}
+use Rattle.definitions.specs.Reading.{inScope, unscoped, scopesBy, scopesAt, rootBy, whole, readRoot}
 use Rattle.definitions.proofs.Weights.{sizeName, sizeProperties, sizeNode, sizeAttributes, sizeValue, sizeChildren}
 
 -- ---- what holds of a reading
@@ -130,7 +134,8 @@ name-by text t (names.Identifier s) next h = told-named (boundsOf text s) (told-
 name-by text t names.This next h = told-map this (h 1) (λ a u e. omega arith)
 name-by text t (names.Namespaced s r) next h = told-named (worse (boundsOf text s) (boundsOf text r)) (tells refl)
 
-properties-by : (text t : List ℕ) (c : PropertyCommand) (next : ℕ → Parsed (List Property)) → ((u : ℕ) → Behind sizeProperties u (next u)) → Sized sizeProperties (propertiesBy text t c next)
+properties-by : (text t : List ℕ) (c : PropertyCommand) (next : ℕ → Parsed (List Property)) → ((u : ℕ) → Behind sizeProperties u (next u))
+    → Sized sizeProperties (propertiesBy text t c next)
 unfolding propertiesBy sizeProperties
 properties-by text t properties.Wrong next h = faults
 properties-by text t properties.Cut next h = faults

@@ -23,7 +23,7 @@ use Rattle.definitions.specs.Tree.{Root}
 use Rattle.definitions.specs.Reading.{readRoot}
 use Rattle.definitions.specs.Records.{recordTape}
 use Rattle.definitions.specs.States.{spansBorneOut, formsBorneOut, live, imports, numberedFrom, unrepeated, allBindable, sound, overfilled}
-use Rattle.definitions.specs.Entries.{laid, Lowered, loweredAfter, fitted, judgeRoot, judgeRecords}
+use Rattle.definitions.specs.Entries.{laid, Lowered, loweredAfter, fitted, judgeRoot, judgeWriting, judgeRecords}
 use Rattle.definitions.proofs.Counting.{never, either-false}
 
 -- ---- tests that refuse
@@ -151,7 +151,7 @@ module _ (text : List ℕ) (s : State) (tape : List ℕ) (callRoom noticeRoom : 
 -- ---- written records
 
 pub records-taken : (text : List ℕ) (s : State) (k : ℕ) (t : List ℕ) → judgeRecords text s k ≡ accepted t → length t ≤ k
-unfolding judgeRecords
+unfolding judgeRecords judgeWriting
 records-taken text s k t e =
     let a = past _ _ _ _ e in
     let b = past-at _ _ _ _ (a .1) in

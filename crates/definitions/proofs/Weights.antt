@@ -22,14 +22,21 @@ use Rattle.commands.specs.declared.root.Place.{Place}
 use Rattle.definitions.specs.declared.options.Mode.{Mode}
 use Rattle.definitions.specs.declared.options.Mode.the-variants.{Module, Script, Classic}
 use Rattle.definitions.specs.declared.records.Import.{Import}
-use Rattle.definitions.specs.Tree.{Name, Property, unnamed, propName, Node, element, fragment, Attributes, noAttributes, attribute, namespacedAttribute, spread, literal, Value, absent, string, expression, empty, nodeValue, Children, noChildren, textChild, expressionChild, emptyChild, spreadChild, nodeChild}
+use Rattle.definitions.specs.Tree.{Name, Property, unnamed, propName, Node, element, fragment, Attributes, noAttributes, attribute}
+use Rattle.definitions.specs.Tree.{namespacedAttribute, spread, literal, Value, absent, string, expression, empty, nodeValue, Children}
+use Rattle.definitions.specs.Tree.{noChildren, textChild, expressionChild, emptyChild, spreadChild, nodeChild}
 use Rattle.definitions.specs.Tree as tree
 use Rattle.definitions.specs.Pragmas.{onto}
 use Rattle.definitions.specs.JsxText.{Placed, charsFrom, linesOf, trimFront, trimBack, laterLines, spansOf, keptLines, jsxText}
 use Rattle.definitions.specs.Calls.{Command, bare, byte, over, span, binding, source, Notice, valuelessKey, namespacedTag, bytesOf, callBytes, noticeBytesOf, noticeBytes}
 use Rattle.definitions.specs.Calls as call
 use Rattle.definitions.specs.Store.{boundBy, numbered, numberedAll}
-use Rattle.definitions.specs.Lowering.{Context, Output, emit, notify, commandsOf, noticesOf, put, putByte, putOver, putSpan, piece, quoted, joined, colonized, members, lowerName, imported, calleeNamed, fragmentTag, isKey, hasValue, hasProto, carried, lowerLiteral, isFound, attributeName, keyNotice, survivors, hasSpread, formOf, childrenProperty, lowerText, sourceOutput, selfOutput, staticChildren, noKey, isClassic, pureByte, closing, automaticName, automaticCall, objectOf, classicCall, pluginsOff, isLast, loneSpreadOr, classicElement, lowerNode, lowerAttributes, lowerKey, lowerValue, lowerChildren}
+use Rattle.definitions.specs.Lowering.{Context, Output, emit, notify, commandsOf, noticesOf, put, putByte, putOver, putSpan, piece, quoted}
+use Rattle.definitions.specs.Lowering.{joined, colonized, members, lowerName, imported, calleeNamed, fragmentTag, isKey, hasValue, hasProto}
+use Rattle.definitions.specs.Lowering.{carried, lowerLiteral, isFound, attributeName, keyNotice, survivors, hasSpread, formOf, childrenProperty}
+use Rattle.definitions.specs.Lowering.{lowerText, sourceOutput, selfOutput, staticChildren, noKey, isClassic, pureByte, closing, automaticName}
+use Rattle.definitions.specs.Lowering.{automaticCall, objectOf, classicCall, pluginsOff, isLast, loneSpreadOr, classicElement, lowerNode}
+use Rattle.definitions.specs.Lowering.{lowerAttributes, lowerKey, lowerValue, lowerChildren}
 
 -- ---- the weight of an output
 
@@ -235,7 +242,8 @@ carried-weighs (propName e s ∷ ps) = omega (arith, carried-weighs ps)
 
 literal-weighs : (c : Context) (e : ℕ) (ps : List Property) → weight (lowerLiteral c e ps) ≤ 3 + sizeProperties ps
 unfolding weight
-literal-weighs c e ps = either-weighs (hasProto c ps) (putOver call.spreadProperty e) (carried ps) (3 + sizeProperties ps) (omega arith) (omega (arith, carried-weighs ps))
+literal-weighs c e ps =
+    either-weighs (hasProto c ps) (putOver call.spreadProperty e) (carried ps) (3 + sizeProperties ps) (omega arith) (omega (arith, carried-weighs ps))
 
 children-weigh : (n form : ℕ) (items : List Output) → weight (childrenProperty n form items) ≤ weight items + 3
 unfolding childrenProperty weight
@@ -387,7 +395,8 @@ module _ (c : Context) (price : Span → ℕ) (text-weighs : (s : Span) → weig
     attributes-weigh (literal e ps a) = simp weight-append (omega (arith, literal-weighs c e ps, attributes-weigh a))
 
     -- the value of a key is written once, among the attributes or behind the children
-    keyed-weigh : (a : Attributes) (other : List Output) → weight (lowerAttributes c false a) + weight (lowerKey c a other) ≤ 4 * sizeAttributes a + pricedAttributes price a + weight other
+    keyed-weigh : (a : Attributes) (other : List Output)
+        → weight (lowerAttributes c false a) + weight (lowerKey c a other) ≤ 4 * sizeAttributes a + pricedAttributes price a + weight other
     keyed-weigh noAttributes other = omega arith
     keyed-weigh (attribute s v a) other = go (isKey c s) (hasValue v) (value-weighs v) (keyed-weigh a)
       where

@@ -1,4 +1,4 @@
--- Document 01, "Calls" and "Notices": the commands of the call tape and the notices, their bytes, and how a call tape is read.
+-- docs/TAPES.md, "Call tape" and "Notice tape": the commands of the call tape and the notices, their bytes, and how a call tape is read.
 use Prim.Native.Nat.{ℕ, zero, suc}
 use mathlib.Core.Bool.{Bool, cond}
 use mathlib.Core.List.{List, [], _∷_, _++_}

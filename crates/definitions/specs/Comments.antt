@@ -1,4 +1,4 @@
--- Document 01, "Settings": the pragmas of the comments and what they set (comments.rs).
+-- docs/TAPES.md, "Settings": the pragmas of the comments and what they set (comments.rs).
 use Prim.Native.Nat.{ℕ, zero, suc, _+_, _-_}
 use mathlib.Core.Bool.{Bool, true, false, cond, not, _&&_, _||_}
 use mathlib.Core.List.{List, [], _∷_}

@@ -1,10 +1,9 @@
--- Document 01, "Turned away": what each entry answers, the state that it returns and what every target holds after, refused or not.
+-- docs/TAPES.md, "Refusals": what each entry answers, the state that it returns and what every target holds after, refused or not.
 use Prim.Native.Nat.{ℕ, zero, suc, _+_, _-_}
 use mathlib.Core.Bool.{Bool, true, false, cond, not, _||_}
 use mathlib.Core.List.{List, [], _∷_, _++_}
 use lib.ListN.{length, take, drop, replicate}
 use lib.Dec.{ltb}
-use Rattle.text.specs.Utf8.{firstIll}
 use Rattle.tape.specs.declared.refusal.Refusal.{Refusal}
 use Rattle.tape.specs.declared.refusal.Refusal.the-variants as refusal
 use Rattle.definitions.specs.declared.options.Optional.the-variants.{Absent}
@@ -19,7 +18,7 @@ use Rattle.definitions.specs.declared.state.Answer.the-variants as answe
 use Rattle.definitions.specs.declared.state.Stepped.{Stepped}
 use Rattle.definitions.specs.declared.state.Written.{Written}
 use Rattle.definitions.specs.declared.state.Written.the-variants as written
-use Rattle.definitions.specs.Judging.{Judged, accepted, refused, refuse, tooLong, refuseAt, read}
+use Rattle.definitions.specs.Judging.{Judged, accepted, refused, refuse, tooLong, read, judgeState}
 use Rattle.definitions.specs.Options.{flagsOf}
 use Rattle.definitions.specs.Opening.{judgeOpening, settingsOf}
 use Rattle.definitions.specs.Tree.{Root}
@@ -91,10 +90,8 @@ fitted s callRoom noticeRoom l =
 -- "Root: 1, 2, 12, then 3, 4, 6, 7, 8 at the earliest command, in that order within one, then 9, 10, 11."
 unfoldable pub judgeRoot : List ℕ → State → List ℕ → ℕ → ℕ → Judged Lowered
 judgeRoot text s tape callRoom noticeRoom =
-    refuse (tooLong text || tooLong tape) refusal.TooLong
-    (refuseAt (firstIll text) refusal.NotUtf8
-    (refuse (not (sound text s) || overfilled s callRoom noticeRoom) refusal.Forged
-    (read (readRoot text tape) (λ r. fitted s callRoom noticeRoom (loweredAfter text (s .settings) (imports (live s)) r)))))
+    judgeState (tooLong text || tooLong tape) text (not (sound text s) || overfilled s callRoom noticeRoom)
+    (read (readRoot text tape) (λ r. fitted s callRoom noticeRoom (loweredAfter text (s .settings) (imports (live s)) r)))
 
 -- things as records, numbered from k
 unfoldable pub recordsFrom : ℕ → List Import → List Record
@@ -135,14 +132,17 @@ rootOutcome text s tape calls notices = outcomeBy s calls notices (judgeRoot tex
 
 -- ---- writing records
 
+-- a tape that is written where there is room for it
+abbrev pub judgeTape : List ℕ → ℕ → Judged (List ℕ)
+judgeTape t room = refuse (ltb room (length t)) (refusal.Space (length t)) (accepted t)
+
+-- what is written from a text and a state: 1, 2, 12, before it
+unfoldable pub judgeWriting : List ℕ → State → Judged (List ℕ) → Judged (List ℕ)
+judgeWriting text s rest = judgeState (tooLong text) text (not (sound text s)) rest
+
 -- "Writing records: 1, 2, 12, 10."
 unfoldable pub judgeRecords : List ℕ → State → ℕ → Judged (List ℕ)
-judgeRecords text s room =
-    refuse (tooLong text) refusal.TooLong
-    (refuseAt (firstIll text) refusal.NotUtf8
-    (refuse (not (sound text s)) refusal.Forged
-    (refuse (ltb room (length (recordTape (s .settings .mode) (live s)))) (refusal.Space (length (recordTape (s .settings .mode) (live s))))
-    (accepted (recordTape (s .settings .mode) (live s))))))
+judgeRecords text s room = judgeWriting text s (judgeTape (recordTape (s .settings .mode) (live s)) room)
 
 unfoldable pub recordsAnswer : Judged (List ℕ) → Written
 recordsAnswer (accepted t) = written.Accepted (length t)

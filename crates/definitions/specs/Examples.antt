@@ -1,4 +1,4 @@
--- Document 01, "Sheets to try": the proved set, one table closed by one claim that is computed from the definitions.
+-- The specification's "Sheets to try": the proved set, one table closed by one claim that is computed from the definitions.
 use Prim.Native.Nat.{ℕ, _+_, _*_, _-_}
 use Prim.Native.String.{String}
 use mathlib.Core.Path.{_≡_, refl}
@@ -32,7 +32,7 @@ use Rattle.definitions.specs.Store.{sameImport, numberIn, bound, boundBy
 use Rattle.definitions.specs.Lowering.{joined, members, lowerName, imported, hasValue, isProto, hasProto, carried, isFound, attributeName, keyNotice, keyAfterSpread, someLine, survivors, hasSpread, childrenProperty, lowerText, sourceOutput, selfOutput, staticChildren, noKey, isClassic, automaticName, automaticCall, objectOf, classicCall, isLast, loneSpreadOr, lowerNode, lowerAttributes, lowerKey, lowerValue, lowerChildren, insideConstructor, lowerRoot, commandsOf, noticesOf}
 use Rattle.definitions.specs.Records.{without, isAmong, withGroup, groupedBy, groupsFrom, entryIn, entriesIn, groupTape, placeIn, fileNameEntry, fileNameTape, recordTape}
 use Rattle.definitions.specs.States.{inOrder, borneOut, rootNumber, formBorneOut, numberedFrom, unrepeated, allBindable, sound}
-use Rattle.definitions.specs.Entries.{loweredAfter, fitted, judgeRoot, recordsFrom, moved, judgeRecords}
+use Rattle.definitions.specs.Entries.{loweredAfter, fitted, judgeRoot, recordsFrom, moved, judgeWriting, judgeRecords}
 use Rattle.definitions.specs.Program.{Printed, printed, refusedWith, printRecords, printRoot, printOpening, jsxtape}
 
 -- ---- how rows are written
@@ -247,7 +247,7 @@ unfolding replyTo pairsOf meaningOf meaning digit hexOf
     joined members lowerName imported hasValue isProto hasProto carried isFound attributeName keyNotice keyAfterSpread someLine survivors hasSpread childrenProperty lowerText sourceOutput selfOutput staticChildren noKey isClassic automaticName automaticCall objectOf classicCall isLast loneSpreadOr lowerNode lowerAttributes lowerKey lowerValue lowerChildren insideConstructor lowerRoot commandsOf noticesOf
     without isAmong withGroup groupedBy groupsFrom entryIn entriesIn groupTape placeIn fileNameEntry fileNameTape recordTape
     inOrder borneOut rootNumber formBorneOut numberedFrom unrepeated allBindable sound
-    loweredAfter fitted judgeRoot recordsFrom moved judgeRecords
+    loweredAfter fitted judgeRoot recordsFrom moved judgeWriting judgeRecords
     printRecords printRoot printOpening jsxtape
 computed = (refl, refl)
 

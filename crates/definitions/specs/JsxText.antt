@@ -1,4 +1,4 @@
--- Document 01, "Calls": "Text lines end at LF, CR, U+2028, U+2029. White space is ECMA-262's WhiteSpace. The first line keeps its front, the last its
+-- The specification's "Calls": "Text lines end at LF, CR, U+2028, U+2029. White space is ECMA-262's WhiteSpace. The first line keeps its front, the last its
 -- back; blank lines vanish unless the text is one line; lines join by one space." (`fixup_whitespace_and_decode_entities` of jsx_impl.rs.)
 use Prim.Native.Nat.{ℕ, zero, suc, _+_, _-_}
 use mathlib.Core.Bool.{Bool, cond}

@@ -8,6 +8,8 @@ use Rattle.text.specs.declared.bytes.Found.{Found}
 use Rattle.text.specs.declared.bytes.Found.the-variants as found
 use Rattle.text.specs.declared.spans.Bounds.{Bounds}
 use Rattle.text.specs.declared.spans.Bounds.the-variants.{Outside, Cuts, Empty, Good}
+use Rattle.text.specs.Utf8.{firstIll}
+use Rattle.tape.specs.Limits.{maxLength}
 use Rattle.tape.specs.declared.refusal.Fault.{Fault}
 use Rattle.tape.specs.declared.refusal.Fault.the-variants as fault
 use Rattle.tape.specs.declared.refusal.Refusal.{Refusal}
@@ -83,7 +85,7 @@ refuse false r j = j
 
 -- "text or tape over 65,535 bytes"
 abbrev pub tooLong : List ℕ → Bool
-tooLong l = ltb 65535 (length l)
+tooLong l = ltb maxLength (length l)
 
 -- a search that refuses where it finds something
 unfoldable pub refuseAt : {A : Type 0} → Found → (ℕ → Refusal) → Judged A → Judged A
@@ -94,3 +96,11 @@ refuseAt found.Nothing r j = j
 unfoldable pub read : {A B : Type 0} → Parsed A → (A → Judged B) → Judged B
 read (done a u) k = k a
 read (stop f p) k = refused (refusal.Tape f p)
+
+-- every entry judges its text first: 1, where the text or a tape is too long, then 2
+abbrev pub judgeText : {A : Type 0} → Bool → List ℕ → Judged A → Judged A
+judgeText long text rest = refuse long refusal.TooLong (refuseAt (firstIll text) refusal.NotUtf8 rest)
+
+-- and then its state: 12
+abbrev pub judgeState : {A : Type 0} → Bool → List ℕ → Bool → Judged A → Judged A
+judgeState long text forged rest = judgeText long text (refuse forged refusal.Forged rest)

@@ -1,4 +1,4 @@
--- Document 01, "Calls": the calls that a tree becomes and the notices on the way (jsx_impl.rs, jsx_self.rs, jsx_source.rs). A command names a binding
+-- docs/TAPES.md, "Call tape" and "Grammar": the calls that a tree becomes and the notices on the way (jsx_impl.rs, jsx_self.rs, jsx_source.rs). A command names a binding
 -- by what it is; numbers come later.
 use Prim.Native.Nat.{ℕ, suc, _+_}
 use mathlib.Core.Bool.{Bool, true, false, cond, not, _&&_, _||_}

@@ -1,4 +1,4 @@
--- Document 01, "Settings": the opening tape, the settings that it gives, and which openings are refused.
+-- docs/TAPES.md, "Opening tape" and "Settings": the opening tape, the settings that it gives, and which openings are refused.
 use Prim.Native.Nat.{ℕ, zero, suc, _+_}
 use mathlib.Core.Bool.{Bool, true, false, cond, _&&_, _||_}
 use mathlib.Core.List.{List, [], _∷_, _++_}
@@ -7,7 +7,6 @@ use Rattle.text.specs.declared.bytes.Found.{Found}
 use Rattle.text.specs.declared.bytes.Found.the-variants as found
 use Rattle.text.specs.declared.spans.Span.{Span}
 use Rattle.text.specs.Bytes.{ascii, find, overAscii}
-use Rattle.text.specs.Utf8.{firstIll}
 use Rattle.text.specs.Spans.{partOf, boundsOf}
 use Rattle.commands.specs.declared.opening.FlagsCommand.{FlagsCommand}
 use Rattle.commands.specs.declared.opening.FlagsCommand.the-variants as flags
@@ -24,7 +23,7 @@ use Rattle.definitions.specs.declared.options.Mode.{Mode}
 use Rattle.definitions.specs.declared.options.Mode.the-variants.{Module, Script, Classic}
 use Rattle.definitions.specs.declared.options.Form.{Form}
 use Rattle.definitions.specs.declared.options.Settings.{Settings}
-use Rattle.definitions.specs.Judging.{Parsed, done, stop, _then_, map, from, wrong, cut, spanned, Judged, accepted, refused, refuse, tooLong, refuseAt, read}
+use Rattle.definitions.specs.Judging.{Parsed, done, stop, _then_, map, from, wrong, cut, spanned, Judged, accepted, refused, tooLong, refuseAt, read, judgeText}
 use Rattle.definitions.specs.Options.{flagsOf, conform}
 use Rattle.definitions.specs.Comments.{withComments}
 use Rattle.definitions.specs.Pragmas.{defaultForm, formIn}
@@ -170,6 +169,4 @@ pragmasChecked text s =
 -- "Opening: 1, 2, then 3 and 4 in tape order, 3 first within one command, then 5 (pragma before fragment)."
 unfoldable pub judgeOpening : List ℕ → List ℕ → Judged Settings
 judgeOpening text tape =
-    refuse (tooLong text || tooLong tape) refusal.TooLong
-    (refuseAt (firstIll text) refusal.NotUtf8
-    (read (readOpening text tape) (λ o. pragmasChecked text (settingsOf text (optionsOf text o)))))
+    judgeText (tooLong text || tooLong tape) text (read (readOpening text tape) (λ o. pragmasChecked text (settingsOf text (optionsOf text o))))

@@ -1,4 +1,4 @@
--- Document 01, "Settings": the options that the opening tape gives (options.rs).
+-- docs/TAPES.md, "Opening tape": the options that the opening tape gives (options.rs).
 use Prim.Native.Nat.{ℕ, _/_, _%_, _^_}
 use mathlib.Core.Bool.{Bool, _||_}
 use lib.Dec.{eqb}

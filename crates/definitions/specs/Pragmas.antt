@@ -1,4 +1,4 @@
--- Document 01, "Settings": what a pragma is (`parse_impl` and `parse_no_ctx` of jsx_impl.rs).
+-- docs/TAPES.md, "Settings": what a pragma is (`parse_impl` and `parse_no_ctx` of jsx_impl.rs).
 use Prim.Native.Nat.{ℕ, suc}
 use mathlib.Core.Bool.{Bool, true, false, cond, not, _&&_, _||_}
 use mathlib.Core.List.{List, [], _∷_}

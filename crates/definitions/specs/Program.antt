@@ -1,4 +1,4 @@
--- Document 01, "Sheets to try": what the program `jsxtape` prints for a job, a text and a root.
+-- What the program `jsxtape` prints for a job, a text and a root.
 use Prim.Native.Nat.{ℕ}
 use mathlib.Core.List.{List}
 use Rattle.tape.specs.declared.refusal.Refusal.{Refusal}

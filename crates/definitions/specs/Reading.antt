@@ -1,4 +1,4 @@
--- Document 01, "Calls" and "Turned away": how a root tape is read as a tree, or where it is refused. Faults are told at the earliest command, within one
+-- docs/TAPES.md, "Root tape", "Grammar" and "Refusals": how a root tape is read as a tree, or where it is refused. Faults are told at the earliest command, within one
 -- command 3, then 4, 6, 7, 8.
 use Prim.Native.Nat.{ℕ, zero, suc, _+_}
 use mathlib.Core.Bool.{Bool, true, false, cond, _||_}

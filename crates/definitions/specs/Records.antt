@@ -1,4 +1,4 @@
--- Document 01, "Records": the record tape (module_imports.rs), and how one is read.
+-- docs/TAPES.md, "Record tape": the record tape (module_imports.rs), and how one is read.
 use Prim.Native.Nat.{ℕ, suc}
 use mathlib.Core.Bool.{Bool, true, false, cond, _&&_, _||_}
 use mathlib.Core.List.{List, [], _∷_, _++_}

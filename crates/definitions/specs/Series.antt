@@ -1,4 +1,4 @@
--- Document 01, "Series of roots": each root is given the state that the last one left and the same call and notice targets.
+-- The specification's "Series of roots": each root is given the state that the last one left and the same call and notice targets.
 use Prim.Native.Nat.{ℕ}
 use mathlib.Core.List.{List, [], _∷_, _++_}
 use lib.ListN.{take}

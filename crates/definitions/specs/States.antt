@@ -1,4 +1,4 @@
--- Document 01, "Turned away": which states are forged. What a state says is judged against the text.
+-- docs/TAPES.md, "Refusals", 12: which states are forged. What a state says is judged against the text.
 use Prim.Native.Nat.{ℕ, suc}
 use mathlib.Core.Bool.{Bool, true, false, cond, not, _&&_, _||_}
 use mathlib.Core.List.{List, [], _∷_, _++_, map}

@@ -1,4 +1,4 @@
--- Document 01, "Records": what a job binds, and the numbers of bindings. "Bindings count from 0 in order of making, file name included."
+-- docs/TAPES.md, "Record tape": what a job binds, and the numbers of bindings. "Bindings count from 0 in order of making, file name included."
 use Prim.Native.Nat.{ℕ, suc}
 use mathlib.Core.Bool.{Bool, true, false, cond, not, _&&_, _||_}
 use mathlib.Core.List.{List, [], _∷_, _++_}

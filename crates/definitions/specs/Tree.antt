@@ -1,4 +1,4 @@
--- Document 01, "Calls": what a root tape says, as a tree.
+-- docs/TAPES.md, "Root tape": what a root tape says, as a tree.
 use Prim.Native.Nat.{ℕ}
 use mathlib.Core.List.{List}
 use Rattle.text.specs.declared.spans.Span.{Span}

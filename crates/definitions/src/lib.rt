@@ -1,4 +1,6 @@
-// The types of document 01's settings, records and state, and in specs/ its definitions.
+// The types of settings, records and state, the codes of what is written, and in specs/ the definitions of all that the product claims.
+pub mod call_tape;
 pub mod options;
+pub mod record_tape;
 pub mod records;
 pub mod state;

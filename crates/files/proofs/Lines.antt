@@ -36,7 +36,8 @@ pub more-digits : (d n : ℕ) {o o₁ o₂ : List ℕ} {at next r : ℕ} → 0 <
     → Wrote o₁ o₂ next r ((0x30 + n % 10) ∷ []) → Wrote o o₂ at r (decimalIn d n)
 unfolding decimalIn
 more-digits zero n h k short v w = absurd (omega arith)
-more-digits (suc d) n {o} {o₁} {at = at} {next = next} h k short v w = rw (le-ltb n 10 k) (wrote-then short (subst (λ (k : ℕ). Wrote o o₁ at next (decimalIn k (n / 10))) (sub-one (suc d)) v) w)
+more-digits (suc d) n {o} {o₁} {at = at} {next = next} h k short v w = rw (le-ltb n 10 k)
+    (wrote-then short (subst (λ (k : ℕ). Wrote o o₁ at next (decimalIn k (n / 10))) (sub-one (suc d)) v) w)
 
 -- ---- lines
 

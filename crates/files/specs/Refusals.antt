@@ -1,4 +1,4 @@
--- Document 01, "Sheets to try": "a refusal prints one line, `refused N P`, number and returned figure in decimal".
+-- A refusal as the programs print it. The specification: "a refusal prints one line, `refused N P`, number and returned figure in decimal".
 use Prim.Native.Nat.{ℕ, zero, suc, _+_, _/_, _%_}
 use mathlib.Core.Bool.{cond}
 use mathlib.Core.List.{List, [], _∷_, _++_}

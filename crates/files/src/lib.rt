@@ -3,13 +3,14 @@ ghost use mathlib.Core.Path.{_≡_};
 ghost use mathlib.Core.Bool.{false};
 ghost use Prim.Native.Nat.{_≤_, _^_};
 ghost use Rattle.io.specs.Counts.{Counts};
-ghost use Rattle.printing.specs.Lines.{lineOf};
+ghost use Rattle.printing.specs.Lines.{hexBytes, lineOf};
 ghost use Rattle.text.specs.Bytes.{ascii};
 ghost use Rattle.tape.specs.Targets.{Wrote};
 ghost use Rattle.files.specs.Refusals.{decimalIn, refusalLine};
 ghost use Rattle.files.specs.Lines.{Prints};
 use libc::STDERR_FILENO;
 use libc::STDOUT_FILENO;
+use printing::put_bytes;
 use printing::put_line;
 use tape::refusal::Refusal;
 use tape::refusal::figure;
@@ -53,6 +54,12 @@ fn write_line(line: &[u8], word: &[u8], bytes: &[u8]) -> bool
     write_out(line)
 }
 
+fn write_bytes(line: &[u8], bytes: &[u8]) -> bool
+    requires { ⌜ now line ≡ hexBytes (now bytes) ⌝ }
+{
+    write_out(line)
+}
+
 fn write_refusal(line: &[u8], refusal: Refusal) -> bool
     requires { ⌜ now line ≡ refusalLine refusal ⌝ }
 {
@@ -71,6 +78,17 @@ pub fn print_line(word: &[u8], bytes: &[u8], line: &mut [u8]) -> bool
     write_line(&line[0..n], word, bytes)
 }
 
+// Prints a space and two digits for each byte, in the same way.
+pub fn print_bytes(bytes: &[u8], line: &mut [u8]) -> bool
+    ensures { λ r. ⌜ Prints (hexBytes (now (bytes .entry))) (now (line .entry)) (now (line .exit)) r ⌝ }
+{
+    let n = put_bytes(bytes, line, 0);
+    if line.len() < n {
+        return cannot_write();
+    }
+    write_bytes(&line[0..n], bytes)
+}
+
 // The last digits of a number, in decimal, with no zero in front.
 fn put_decimal(n: usize, digits: usize, out: &mut [u8], at: usize) -> usize
     requires { ⌜ at ≤ 2 ^ 63 ⌝ }
@@ -80,10 +98,10 @@ fn put_decimal(n: usize, digits: usize, out: &mut [u8], at: usize) -> usize
         return at;
     }
     if n < 10 {
-        return put(out, at, 0x30 + n as u8);
+        return put(out, at, b'0' + n as u8);
     }
     let next = put_decimal(n / 10, digits - 1, out, at);
-    put(out, next, 0x30 + (n % 10) as u8)
+    put(out, next, b'0' + (n % 10) as u8)
 }
 
 fn put_refused(out: &mut [u8]) -> usize

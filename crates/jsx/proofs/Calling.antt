@@ -21,7 +21,7 @@ use Rattle.definitions.specs.Lowering.{Context, Output, put, putByte, putOver, 
 use Rattle.definitions.specs.Store.{createElement}
 use Rattle.pen.specs.declared.pen.Pen.{Pen}
 use Rattle.pen.specs.Emitting.{Called, Produced}
-use Rattle.roots.proofs.Behind.{part, part-length}
+use Rattle.root_check.proofs.Behind.{part, part-length}
 use Rattle.parts.specs.declared.jsx_impl.Items.{Items}
 use Rattle.parts.specs.declared.jsx_impl.Props.{Props}
 use Rattle.parts.specs.declared.jsx_impl.Lone.{Lone}

@@ -20,7 +20,7 @@ use Rattle.definitions.specs.JsxText.{jsxText}
 use Rattle.definitions.specs.Lowering.{Context, Output, put, putByte, putOver, formOf, survivors, hasSpread, lowerText, lowerNode, lowerValue, lowerChildren}
 use Rattle.pen.specs.declared.pen.Pen.{Pen}
 use Rattle.pen.specs.Emitting.{Called, Produced}
-use Rattle.roots.specs.InOrder.{Inside}
+use Rattle.root_check.specs.InOrder.{Inside}
 use Rattle.parts.specs.declared.jsx_impl.Items.{Items}
 use Rattle.parts.specs.Promises.{IsText, TextWritten}
 use Rattle.jsx.specs.Parts.{Written, Countable, Step, goes, Moves, ChildStep, ChildrenEnd, ChildrenGo, ChildrenWritten, childrenObject}

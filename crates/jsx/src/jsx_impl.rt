@@ -58,7 +58,7 @@ use pen::pen::put_byte;
 use pen::pen::put_over;
 use pen::strings::put_namespaced;
 use pen::strings::put_string;
-use roots::skip::skip_value;
+use root_check::skip::skip_value;
 use text::spans::Span;
 
 // A tree was lowered: where writing goes on, and how many bytes of the tape it took.

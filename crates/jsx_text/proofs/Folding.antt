@@ -192,7 +192,8 @@ end-kept s e (l ∷ ls) h = refl
 kept-from : (s : Span) (c : Placed) (cs : List Placed) → c .at ≡ s .start
     → linesFrom s opening (s .start) (c ∷ cs) ≡ keptLines s (linesOf (c ∷ cs))
 unfolding linesOf
-kept-from s c cs h = fold-view s opening (s .start) (c ∷ cs) ∙ go (isLineTerminator (c .code))
+kept-from s c cs h =
+    fold-view s opening (s .start) (c ∷ cs) ∙ go (isLineTerminator (c .code))
   where
     go : (t : Bool) → view s opening (s .start) (cond t ([] ∷ linesOf cs) (onto c (linesOf cs)))
         ≡ keptLines s (cond t ([] ∷ linesOf cs) (onto c (linesOf cs)))

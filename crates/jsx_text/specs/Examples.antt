@@ -30,7 +30,7 @@ l leaves ss = record { text = l; part = at 0 (length l); left = ss }
 
 abbrev table : List Row
 table =
-    -- document 01, "Sheets to try": "Text of 3 spaces: kept."; "LF: no child."; " a", LF, "b " with single spaces between
+    -- the specification's examples: "Text of 3 spaces: kept."; "LF: no child."; " a", LF, "b " with single spaces between
     (ascii "   " leaves (at 0 3 ∷ []))
     ∷ (ascii "\n" leaves [])
     ∷ (ascii " a \n b " leaves (at 0 2 ∷ at 5 2 ∷ []))

@@ -12,22 +12,19 @@ ghost use Rattle.definitions.specs.JsxText.{jsxText};
 ghost use Rattle.definitions.specs.Lowering.{someLine};
 ghost use Rattle.jsx_text.specs.Marks.{marked, Run, Plain, Marks};
 ghost use Rattle.jsx_text.specs.TextBytes.{textBytes, lineBytes, endBytes};
+use definitions::call_tape::PIECE;
+use definitions::call_tape::SPACE;
+use definitions::call_tape::STRING_BEGIN;
+use definitions::call_tape::STRING_END;
 use tape::target::put;
 use tape::target::put_span;
+use text::bytes::ASCII_END;
 use text::chars::Char;
 use text::chars::first_char;
 use text::chars::is_line_terminator;
 use text::chars::is_white_space;
 use text::spans::Span;
 use text::spans::part;
-
-const STRING_BEGIN: u8 = 0x8a;
-
-const PIECE: u8 = 0x8b;
-
-const SPACE: u8 = 0x8c;
-
-const STRING_END: u8 = 0x8d;
 
 // The place behind what was written, and whether there was a line to write: a text whose lines all vanish is no child.
 pub struct Texted {
@@ -53,6 +50,8 @@ fn mark_of(c: Char) -> Mark
     }
     Mark::Ink(c.width)
 }
+
+const LAST_ASCII: u8 = ASCII_END - 1;
 
 // So many bytes of a run are tested at once.
 const BLOCK: usize = 16;
@@ -111,8 +110,8 @@ fn plain_end(s: &[u8], i: usize) -> usize
     requires { ⌜ (0x20 < getD (now s) i 0) × (getD (now s) i 0 < 0x80) ⌝ }
     ensures { λ r. ⌜ Plain (now (s .entry)) i r ⌝ }
 {
-    let mut to = run_end(s, i + 1, 0x20, 0x7f);
-    while s[to - 1] == 0x20 {
+    let mut to = run_end(s, i + 1, b' ', LAST_ASCII);
+    while s[to - 1] == b' ' {
         to -= 1;
     }
     to
@@ -125,14 +124,14 @@ fn mark_at(s: &[u8], i: usize) -> Mark
     ensures { λ r. ⌜ Marks (now (s .entry)) i r ⌝ }
 {
     let b = s[i];
-    if 0x80 <= b {
+    if ASCII_END <= b {
         return mark_of(first_char(&s[i..]));
     }
-    if 0x20 < b {
+    if b' ' < b {
         return Mark::Ink(plain_end(s, i) - i);
     }
-    if b == 0x20 {
-        return Mark::White(run_end(s, i + 1, 0x20, 0x20) - i);
+    if b == b' ' {
+        return Mark::White(run_end(s, i + 1, b' ', b' ') - i);
     }
     mark_of(Char {
         code: b as u32,

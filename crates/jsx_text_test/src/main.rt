@@ -2,6 +2,7 @@
 // (counted with a target of one byte), and these bytes.
 ghost use Prim.Native.Nat.{_≤_};
 ghost use lib.ListN.{length};
+use files::print_bytes;
 use jsx_text::fixup_whitespace_and_decode_entities;
 use libc::STDOUT_FILENO;
 use text::bytes::Found;
@@ -9,14 +10,8 @@ use text::spans::Span;
 use text::spans::part;
 use text::utf8::first_ill_formed;
 
-fn write_bytes(bytes: &[u8]) {
-    let mut i = 0;
-    while i < bytes.len() {
-        io::write_all(STDOUT_FILENO, b" ");
-        io::print_hex(STDOUT_FILENO, bytes[i] as u64, 2);
-        i += 1;
-    }
-}
+// A space and two digits for each byte of the longest call tape that is shown.
+const LINE: usize = 512 * 3;
 
 fn show(text: &[u8], span: Span)
     requires { ⌜ length (now text) ≤ 65535 ⌝ }
@@ -37,7 +32,8 @@ fn show(text: &[u8], span: Span)
     io::print_decimal(STDOUT_FILENO, counted.at as u64);
     let n = texted.at;
     if n <= calls.len() {
-        write_bytes(&calls[0..n]);
+        let mut line = [0u8; LINE];
+        print_bytes(&calls[0..n], &mut line);
     }
     io::write_all(STDOUT_FILENO, b"\n");
 }

@@ -13,7 +13,7 @@ use Rattle.tape.specs.declared.refusal.Refusal.the-variants as refusal
 use Rattle.definitions.specs.declared.state.State.{State}
 use Rattle.definitions.specs.Judging.{Judged, refused, refuse, refuseAt, tooLong}
 use Rattle.definitions.specs.States.{sound, overfilled}
-use Rattle.definitions.specs.Entries.{Lowered, judgeRoot, outcomeBy, rootOutcome, judgeRecords, recordsAnswer}
+use Rattle.definitions.specs.Entries.{Lowered, judgeRoot, outcomeBy, rootOutcome, judgeWriting, judgeRecords, recordsAnswer}
 use Rattle.definitions.specs.Series.{World}
 use Rattle.lowering.specs.RootLists.{Run, judgeList, judgedRun, run}
 use Rattle.packing.specs.Packed.{Found as Unpack, none, noState, unpacked, unpackedAnswer}
@@ -62,6 +62,6 @@ list-unread text state roots calls notices e h g =
     ∙ stop _ _ _ (ap (λ (b : Bool). not b || overfilled (stateFrom state) (length calls) (length notices)) (unsound-from text state e)))
 
 pub records-unread : RecordsUnread
-unfolding judgeRecords recordsAnswer
+unfolding judgeRecords judgeWriting recordsAnswer
 records-unread text state room e h g =
     ap recordsAnswer (pass _ _ _ h ∙ fair _ _ _ g ∙ stop _ _ _ (ap (λ (b : Bool). not b) (unsound-from text state e)))

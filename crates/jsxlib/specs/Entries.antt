@@ -1,4 +1,4 @@
--- The entries over bytes and numbers: what each answers, and what its targets hold after. A refusal is answered by document 01's number, with its figure
+-- The entries over bytes and numbers: what each answers, and what its targets hold after. A refusal is answered by its number, with its figure
 -- beside it; 0 is no refusal.
 use Prim.Native.Nat.{ℕ}
 use mathlib.Core.Bool.{cond}

@@ -1,4 +1,4 @@
--- Bytes that are no state's are refused as forged wherever document 01 looks at the state: behind 1 and 2, and before all else (proved in proofs/Unread).
+-- Bytes that are no state's are refused as forged wherever an entry looks at the state: behind 1 and 2, and before all else (proved in proofs/Unread).
 use Prim.Native.Nat.{ℕ}
 use mathlib.Core.Path.{_≡_}
 use mathlib.Core.Bool.{false, _||_}

@@ -1,5 +1,5 @@
 // The entries for programs in other languages, over bytes and numbers. A job's state stands packed in bytes that the caller lends. Each entry
-// answers 0, or document 01's number of a refusal, and puts its figure where the caller can read it. A refusal leaves the state's bytes and the
+// answers 0, or the number of a refusal (docs/TAPES.md), and puts its figure where the caller can read it. A refusal leaves the state's bytes and the
 // targets as they are.
 ghost use mathlib.Core.Path.{_≡_};
 ghost use mathlib.Core.Bool.{cond};
@@ -11,7 +11,7 @@ ghost use Rattle.definitions.specs.Opening.{judgeOpening};
 ghost use Rattle.definitions.specs.Entries.{opened, judgeRecords, recordsAnswer, recordsTarget};
 ghost use Rattle.lowering.specs.RootLists.{rootsIn};
 ghost use Rattle.packing.specs.Packed.{unpacked, unpackedAnswer};
-ghost use Rattle.room.specs.Room.{callRoom, HoldsCalls};
+ghost use Rattle.size_bound.specs.SizeBound.{callSizeBound, HoldsCalls};
 ghost use Rattle.jsxlib.specs.Entries.{stateFrom, numberBy, figureBy, stateAfter, answerIn, openAnswer, rootOver, runOver, keptState, recordsOver, recordsNumber, recordsFigure, settingsOver, sourceOver, jobOver};
 ghost use Rattle.jsxlib.specs.Hosts.{Served, Hosted};
 use definitions::state::Answer;
@@ -19,13 +19,15 @@ use definitions::state::State;
 use definitions::state::Written;
 use lowering::lower_root;
 use lowering::series::lower_list;
+use packing::layout::STATE_SIZE;
 use packing::reading::unpack;
 use packing::writing::pack;
 use resolved::write_settings;
 use resolved::write_source;
-use room::call_room;
 use settings::opening::open_job;
+use size_bound::call_size_bound;
 use store::module_imports::write_records;
+use tape::refusal::FORGED;
 use tape::refusal::Refusal;
 use tape::refusal::figure;
 use tape::refusal::number;
@@ -44,8 +46,8 @@ fn answer_in(answer: Answer, room: usize) -> Answer
 {
     match answer {
         Answer::Accepted => {
-            if room < 102 {
-                return Answer::Refused(Refusal::Space(102));
+            if room < STATE_SIZE {
+                return Answer::Refused(Refusal::Space(STATE_SIZE));
             }
             Answer::Accepted
         }
@@ -114,7 +116,7 @@ pub extern "C" fn jsx_open(text: &[u8], job: &[u8], state: &mut [u8], figure: &m
     let told = stepped.answer;
     let opening = stepped.state;
     let answer = answer_in(told, state.len());
-    *figure = figure_by(answer, 102);
+    *figure = figure_by(answer, STATE_SIZE);
     settle(answer, opening, state)
 }
 
@@ -262,17 +264,17 @@ pub extern "C" fn jsx_fills(state: &[u8], calls: &mut usize, notices: &mut usize
     if told.good {
         return 0;
     }
-    12
+    FORGED
 }
 
 // As many bytes as the calls of a root can take at the most: a target with that much room behind its fill takes the root in one pass. What the
 // notices take at the most is the length of the tape.
 #[no_mangle]
 pub extern "C" fn jsx_call_room(tape: &[u8]) -> usize
-    ensures { λ r. ⌜ r ≡ callRoom (now (tape .entry)) ⌝ }
+    ensures { λ r. ⌜ r ≡ callSizeBound (now (tape .entry)) ⌝ }
     ensures { λ r. ⌜ HoldsCalls (now (tape .entry)) r ⌝ }
 {
-    call_room(tape)
+    call_size_bound(tape)
 }
 
 // A whole job: its opening, the roots of a list in turn, and its records, without a state in between. A refusal ends it: `stage` is 0 where that is the

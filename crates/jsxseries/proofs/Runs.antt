@@ -72,7 +72,8 @@ next-fits text w tape f = go (judgeRoot text (w .state) tape (length (w .calls))
   where
     left : Judged Lowered → World
     left j =
-        world (outcomeBy (w .state) (w .calls) (w .notices) j .stepped .state) (outcomeBy (w .state) (w .calls) (w .notices) j .calls) (outcomeBy (w .state) (w .calls) (w .notices) j .notices)
+        world (outcomeBy (w .state) (w .calls) (w .notices) j .stepped .state) (outcomeBy (w .state) (w .calls) (w .notices) j .calls)
+        (outcomeBy (w .state) (w .calls) (w .notices) j .notices)
 
     go : (j : Judged Lowered) → judgeRoot text (w .state) tape (length (w .calls)) (length (w .notices)) ≡ j → Fits (left j)
     go (accepted l) e =

@@ -108,9 +108,11 @@ module _ (text : List ℕ) (s : State) (root calls notices records : List ℕ) (
         let d′ : ns ≡ laid (s .notices) (l .notices) notices = d ∙ ap (λ o. o .notices) (rooms ∙ came) in
         let b′ : rs ≡ laid 0 t records = b ∙ ap (recordsTarget records) (after ∙ y .1) in
         let p : take (x .state .calls) cs ≡ l .calls =
-        (λ ι. take (i ι) (c′ ι)) ∙ take-laid (s .calls) (l .calls) calls (omega (arith, taken .calls-fit, h .calls-room)) ∙ ap (λ (m : ℕ). take m calls ++ l .calls) (f .no-calls) in
+        (λ ι. take (i ι) (c′ ι)) ∙ take-laid (s .calls) (l .calls) calls (omega (arith, taken .calls-fit, h .calls-room)) ∙ ap
+        (λ (m : ℕ). take m calls ++ l .calls) (f .no-calls) in
         let q : take (x .state .notices) ns ≡ l .notices =
-        (λ ι. take (j ι) (d′ ι)) ∙ take-laid (s .notices) (l .notices) notices (omega (arith, taken .notices-fit, h .notices-room)) ∙ ap (λ (m : ℕ). take m notices ++ l .notices) (f .no-notices) in
+        (λ ι. take (j ι) (d′ ι)) ∙ take-laid (s .notices) (l .notices) notices (omega (arith, taken .notices-fit, h .notices-room)) ∙ ap
+        (λ (m : ℕ). take m notices ++ l .notices) (f .no-notices) in
         let m : n ≡ 0 + length t = omega (arith, y .2) in
         let u : take n rs ≡ t = (λ ι. take (m ι) (b′ ι)) ∙ take-laid 0 t records (omega (arith, fit, h .records-room)) in
         record {

@@ -40,7 +40,7 @@ fn run_root(
     }
 }
 
-// What document 01 says that `jsxtape` prints.
+// What `jsxtape` prints: a refusal, or how far each of the three targets is filled.
 pub fn run_job(
     job: &[u8],
     text: &[u8],

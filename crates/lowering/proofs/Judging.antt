@@ -30,8 +30,8 @@ use Rattle.definitions.specs.Entries.{Lowered, loweredAfter, fitted, judgeRoot,
 use Rattle.definitions.proofs.Verdicts.{past, past-at, length-laid, sound-parts, Taken, root-taken}
 use Rattle.definitions.proofs.Moving.{root-sound}
 use Rattle.definitions.proofs.Counting.{either-false}
-use Rattle.roots.specs.declared.check.Checked.the-variants as checks
-use Rattle.roots.specs.Checking.{checked}
+use Rattle.root_check.specs.declared.check.Checked.the-variants as checks
+use Rattle.root_check.specs.Checking.{checked}
 use Rattle.lowering.specs.Steps.{Text, Going, Unforged, judgeTape, tapeOutcome, answerOf, Comes}
 
 pub equations : {o : Outcome} {t : Stepped} {cs ns : List ℕ} → Comes o t cs ns → (t ≡ o .stepped) × ((cs ≡ o .calls) × (ns ≡ o .notices))

@@ -275,7 +275,8 @@ module _ (text : List ℕ) (s : State) (calls notices l : List ℕ) where
   list-ill p h f e = rw (e, le-ltb 65535 (length text) h, f)
 
   module _ (short : length text ≤ 65535) (formed : firstIll text ≡ Nothing) where
-    pub list-forged : {r : Listed} → (not (sound text s) || overfilled s (length calls) (length notices)) ≡ true → r ≡ record { answer = Refused refusal.Forged; state = s; taken = 0 }
+    pub list-forged : {r : Listed} → (not (sound text s) || overfilled s (length calls) (length notices)) ≡ true
+        → r ≡ record { answer = Refused refusal.Forged; state = s; taken = 0 }
         → ran r calls notices ≡ run text (begun s calls notices) l
     unfolding run judgeList judgedRun refuse refuseAt
     list-forged f e = rw (e, le-ltb 65535 (length text) short, formed, f)

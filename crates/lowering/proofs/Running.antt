@@ -1,6 +1,6 @@
 -- Lowering a tape that reads: a run that counts, and one that writes.
 --     Counted, counts      what the first run tells
---     no-number, no-room, no-notice-room, all-fits     the answers by the code's tests
+--     no-number, no-bound, no-notice-room, all-fits     the answers by the code's tests
 --     surely-fits          what needs no counting
 --     written              what the second run comes to
 -- Assumes nothing.
@@ -28,8 +28,8 @@ use Rattle.definitions.specs.Entries.{Lowered, loweredAfter, fitted, moved, out
 use Rattle.definitions.proofs.Fewness.{bound-few}
 use Rattle.definitions.proofs.Notes.{root-notes}
 use Rattle.store.proofs.Adding.{held-moved}
-use Rattle.roots.proofs.Done.{checked-good}
-use Rattle.roots.proofs.Readings.{root-in-order}
+use Rattle.root_check.proofs.Done.{checked-good}
+use Rattle.root_check.proofs.Readings.{root-in-order}
 use Rattle.pen.specs.declared.pen.Pen.{Pen}
 use Rattle.pen.specs.Emitting.{Produced, Emitted}
 use Rattle.pen.proofs.Emitting.{call-room, notice-room}
@@ -75,9 +75,9 @@ module _ {text : List ℕ} {s : State} {tape : List ℕ} {callRoom noticeRoom : 
   no-number h = rw (c .judges, told (c .full) h)
 
   module _ (free : p .full ≡ false) where
-    pub no-room : callRoom - s .calls < p .calls → answer.Refused (refusal.Space (p .calls)) ≡ answerOf (judgeTape text s tape callRoom noticeRoom)
+    pub no-bound : callRoom - s .calls < p .calls → answer.Refused (refusal.Space (p .calls)) ≡ answerOf (judgeTape text s tape callRoom noticeRoom)
     unfolding fitted refuse answerOf
-    no-room h = rw (c .judges, told (c .full) free, ← c .calls, lt-ltb (callRoom - s .calls) (p .calls) h)
+    no-bound h = rw (c .judges, told (c .full) free, ← c .calls, lt-ltb (callRoom - s .calls) (p .calls) h)
 
     module _ (room : p .calls ≤ callRoom - s .calls) where
       pub no-notice-room : noticeRoom - s .notices < p .notices

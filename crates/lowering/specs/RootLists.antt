@@ -5,12 +5,11 @@ use mathlib.Core.Bool.{cond, not, _||_}
 use mathlib.Core.List.{List, [], _∷_}
 use lib.ListN.{length, take, drop}
 use lib.Dec.{eqb, ltb}
-use Rattle.text.specs.Utf8.{firstIll}
 use Rattle.tape.specs.declared.refusal.Fault.the-variants as fault
 use Rattle.tape.specs.declared.refusal.Refusal.the-variants as refusal
 use Rattle.definitions.specs.declared.state.Answer.{Answer}
 use Rattle.definitions.specs.declared.state.Answer.the-variants.{Accepted, Refused}
-use Rattle.definitions.specs.Judging.{Judged, accepted, refused, refuse, refuseAt, tooLong}
+use Rattle.definitions.specs.Judging.{Judged, accepted, refused, tooLong, judgeState}
 use Rattle.definitions.specs.States.{sound, overfilled}
 use Rattle.definitions.specs.Series.{World, outcomeIn, next}
 use Rattle.lowering.specs.declared.series.Ahead.{Ahead}
@@ -66,10 +65,7 @@ runTested text w l = runOf text w (ending (length l) (listBytes (rootsIn l))) (r
 -- a list judges its text and its state as a root does, and before its roots: 1, 2, 12
 unfoldable pub judgeList : List ℕ → World → List ℕ → Judged Run
 judgeList text w l =
-    refuse (tooLong text) refusal.TooLong
-    (refuseAt (firstIll text) refusal.NotUtf8
-    (refuse (not (sound text (w .state)) || overfilled (w .state) (length (w .calls)) (length (w .notices))) refusal.Forged
-    (accepted (runTested text w l))))
+    judgeState (tooLong text) text (not (sound text (w .state)) || overfilled (w .state) (length (w .calls)) (length (w .notices))) (accepted (runTested text w l))
 
 unfoldable pub judgedRun : World → Judged Run → Run
 judgedRun w (accepted r) = r

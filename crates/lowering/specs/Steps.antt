@@ -14,8 +14,8 @@ use Rattle.definitions.specs.Judging.{Judged, accepted, refused, read}
 use Rattle.definitions.specs.Reading.{readRoot}
 use Rattle.definitions.specs.States.{live, imports, sound}
 use Rattle.definitions.specs.Entries.{Lowered, loweredAfter, fitted, Outcome, outcomeBy}
-use Rattle.roots.specs.declared.check.Checked.the-variants.{Good}
-use Rattle.roots.specs.Checking.{checked}
+use Rattle.root_check.specs.declared.check.Checked.the-variants.{Good}
+use Rattle.root_check.specs.Checking.{checked}
 
 -- text and tape are short, and the text is UTF-8
 pub record Text (text tape : List ℕ) : Type 0 where

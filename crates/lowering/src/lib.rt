@@ -1,4 +1,4 @@
-// Lowering a root: document 01's refusals in their order, then calls and notices into their targets.
+// Lowering a root: refusals in their order (docs/TAPES.md, "Refusals"), then calls and notices into their targets.
 pub mod series;
 
 ghost use mathlib.Core.Path.{_≡_};
@@ -14,11 +14,12 @@ use definitions::state::State;
 use definitions::state::Stepped;
 use jsx::jsx_impl::lower;
 use pen::pen::Pen;
-use room::call_room;
-use roots::check::Checked;
-use roots::check::check_root;
+use root_check::check::Checked;
+use root_check::check::check_root;
+use size_bound::call_size_bound;
 use store::forged::is_forged;
 use store::module_imports::Store;
+use tape::limits::MAX_LENGTH;
 use tape::refusal::Refusal;
 use text::bytes::Found;
 use text::utf8::first_ill_formed;
@@ -116,7 +117,7 @@ fn lower_checked(
     ensures { λ r. ⌜ Comes (tapeOutcome (now (text .entry)) state (now (tape .entry)) (now (calls .entry)) (now (notices .entry))) r (now (calls .exit)) (now (notices .exit)) ⌝ }
 {
     // where there is room for whatever the tape can give, nothing need be counted
-    if call_room(tape) <= calls.len() - state.calls {
+    if call_size_bound(tape) <= calls.len() - state.calls {
         if tape.len() <= notices.len() - state.notices {
             return write(text, state, tape, calls, notices);
         }
@@ -145,7 +146,7 @@ fn lower_tape(
 }
 
 // A text that is not too long and is UTF-8, and a tape that is not too long.
-fn lower_text(
+fn lower_if_unforged(
     text: &[u8],
     state: State,
     tape: &[u8],
@@ -161,7 +162,7 @@ fn lower_text(
     lower_tape(text, state, tape, calls, notices)
 }
 
-// The root's calls and notices behind those of the roots before it. Document 01's refusals 1, 2, 12, those of the tape, 9, 10 and 11, in this
+// The root's calls and notices behind those of the roots before it. Refusals 1, 2, 12, those of the tape, 9, 10 and 11, in this
 // order, leave the state and both targets as they are.
 pub fn lower_root(
     text: &[u8],
@@ -174,14 +175,14 @@ pub fn lower_root(
     ensures { λ _. ⌜ now (calls .exit) ≡ rootOutcome (now (text .entry)) state (now (tape .entry)) (now (calls .entry)) (now (notices .entry)) .calls ⌝ }
     ensures { λ _. ⌜ now (notices .exit) ≡ rootOutcome (now (text .entry)) state (now (tape .entry)) (now (calls .entry)) (now (notices .entry)) .notices ⌝ }
 {
-    if 65535 < text.len() {
+    if MAX_LENGTH < text.len() {
         return refused(state, Refusal::TooLong);
     }
-    if 65535 < tape.len() {
+    if MAX_LENGTH < tape.len() {
         return refused(state, Refusal::TooLong);
     }
     match first_ill_formed(text) {
         Found::At(place) => refused(state, Refusal::NotUtf8(place)),
-        Found::Nothing => lower_text(text, state, tape, calls, notices),
+        Found::Nothing => lower_if_unforged(text, state, tape, calls, notices),
     }
 }

@@ -1,4 +1,4 @@
-// A list of roots, one after the other: document 01, "Series of roots".
+// A list of roots, one after the other.
 ghost use mathlib.Core.Path.{_≡_};
 ghost use mathlib.Core.List.{List};
 ghost use Prim.Native.Nat.{ℕ, suc, _≤_};
@@ -21,6 +21,7 @@ use definitions::state::Answer;
 use definitions::state::State;
 use definitions::state::Stepped;
 use store::forged::is_forged;
+use tape::limits::MAX_LENGTH;
 use tape::numbers::read_u16;
 use tape::refusal::Fault;
 use tape::refusal::Refusal;
@@ -60,7 +61,7 @@ fn lower_next(text: &[u8], state: State, root: &[u8], calls: &mut [u8], notices:
 
 // The roots of a list, each over the state that the last one left and the same targets; one that is refused changes nothing. Demand 3 holds of
 // them over the state that an accepted opening gave.
-pub fn lower_roots(
+pub fn lower_series(
     text: &[u8],
     state: State,
     roots: &[u8],
@@ -179,7 +180,7 @@ fn list_refused(state: State, refusal: Refusal) -> Listed
 }
 
 // A text that is not too long and is UTF-8.
-fn lower_if_unforged(
+fn lower_list_if_unforged(
     text: &[u8],
     state: State,
     roots: &[u8],
@@ -211,11 +212,11 @@ pub fn lower_list(
     ensures { λ r. ⌜ record { state = r .state; calls = now (calls .exit); notices = now (notices .exit) } ≡ series (now (text .entry)) (record { state = state; calls = now (calls .entry); notices = now (notices .entry) }) (take (r .taken) (rootsIn (now (roots .entry)))) ⌝ }
     ensures { λ r. ⌜ ((job : List ℕ) (s : Settings) → judgeOpening (now (text .entry)) job ≡ accepted s → state ≡ openState s → Kept (now (text .entry)) s (now (calls .entry)) (now (notices .entry)) (take (r .taken) (rootsIn (now (roots .entry))))) ⌝ }
 {
-    if 65535 < text.len() {
+    if MAX_LENGTH < text.len() {
         return list_refused(state, Refusal::TooLong);
     }
     match first_ill_formed(text) {
         Found::At(place) => list_refused(state, Refusal::NotUtf8(place)),
-        Found::Nothing => lower_if_unforged(text, state, roots, calls, notices),
+        Found::Nothing => lower_list_if_unforged(text, state, roots, calls, notices),
     }
 }

@@ -280,7 +280,8 @@ unpacked-packed s e =
         → unpacked (packed (record { settings = v; records = part nothing rs 0 8; count = count; calls = calls; notices = notices }))
         ≡ found (record { settings = v; records = part nothing rs 0 8; count = count; calls = calls; notices = notices })
     back v rs count calls notices =
-        spelled-back v (getD rs 0 nothing) (getD rs 1 nothing) (getD rs 2 nothing) (getD rs 3 nothing) (getD rs 4 nothing) (getD rs 5 nothing) (getD rs 6 nothing) (getD rs 7 nothing) count calls notices
+        spelled-back v (getD rs 0 nothing) (getD rs 1 nothing) (getD rs 2 nothing) (getD rs 3 nothing) (getD rs 4 nothing) (getD rs 5 nothing)
+        (getD rs 6 nothing) (getD rs 7 nothing) count calls notices
 
 -- ---- the bytes of a part that was read
 
@@ -419,7 +420,9 @@ module _ (t : List ℕ) (bytes : (k : ℕ) → getD t k 0 < 256) where
       let s3 = both (ltb (getD t 26 0) 2 && ltb (getD t 27 0) 3 && ltb (getD t 28 0) 4) (ltb (getD t 37 0) 4) (front .1) in
       let s2 = both (ltb (getD t 26 0) 2 && ltb (getD t 27 0) 3) (ltb (getD t 28 0) 4) (s3 .0) in
       let s1 = both (ltb (getD t 26 0) 2) (ltb (getD t 27 0) 3) (s2 .0) in
-      let r7 = both (goodRecord t 46 && goodRecord t 50 && goodRecord t 54 && goodRecord t 58 && goodRecord t 62 && goodRecord t 66 && goodRecord t 70) (goodRecord t 74) (halves .1) in
+      let r7 = both
+      (goodRecord t 46 && goodRecord t 50 && goodRecord t 54 && goodRecord t 58 && goodRecord t 62 && goodRecord t 66 && goodRecord t 70)
+      (goodRecord t 74) (halves .1) in
       let r6 = both (goodRecord t 46 && goodRecord t 50 && goodRecord t 54 && goodRecord t 58 && goodRecord t 62 && goodRecord t 66) (goodRecord t 70) (r7 .0) in
       let r5 = both (goodRecord t 46 && goodRecord t 50 && goodRecord t 54 && goodRecord t 58 && goodRecord t 62) (goodRecord t 66) (r6 .0) in
       let r4 = both (goodRecord t 46 && goodRecord t 50 && goodRecord t 54 && goodRecord t 58) (goodRecord t 62) (r5 .0) in

@@ -4,9 +4,8 @@ ghost use mathlib.Core.Bool.{cond};
 ghost use Prim.Native.Nat.{_+_, _≤_};
 ghost use lib.ListN.{length, getD};
 ghost use lib.Dec.{eqb, ltb};
-ghost use Rattle.definitions.specs.Options.{flagsOf};
 ghost use Rattle.packing.specs.Packed.{u64At, optionalOf, optionalGood, optionalAt, goodOptional, modeOf, rootOf, formAt, importOf, importGood, recordAt, goodRecord, optionsAt, settingsAt, stateAt, goodOptions, goodSettings, goodRecords, good, unpacked, noState, unpackedAnswer};
-use definitions::options::Flags;
+use crate::layout;
 use definitions::options::Form;
 use definitions::options::Mode;
 use definitions::options::Optional;
@@ -16,6 +15,7 @@ use definitions::options::Settings;
 use definitions::records::Import;
 use definitions::records::Record;
 use definitions::state::State;
+use option_values::flags_of;
 use tape::numbers::read_span;
 use tape::numbers::read_u32;
 use text::spans::Span;
@@ -31,21 +31,6 @@ fn read_u64(bytes: &[u8], at: usize) -> usize
     ensures { λ r. ⌜ r ≡ u64At (now (bytes .entry)) at ⌝ }
 {
     (read_u32(bytes, at) as usize) + (read_u32(bytes, at + 4) as usize) * 4294967296
-}
-
-fn flags_of(n: u8) -> Flags
-    ensures { λ r. ⌜ r ≡ flagsOf n ⌝ }
-{
-    Flags {
-        jsx_plugin: n % 2 == 1,
-        self_plugin: n / 2 % 2 == 1,
-        source_plugin: n / 4 % 2 == 1,
-        classic: n / 8 % 2 == 1,
-        development: n / 16 % 2 == 1,
-        throw_if_namespace: n / 32 % 2 == 1,
-        pure: n / 64 % 2 == 1,
-        module: n / 128 % 2 == 1,
-    }
 }
 
 fn optional_of(n: u8, span: Span) -> Optional
@@ -164,12 +149,12 @@ fn options_at(bytes: &[u8]) -> Options
     requires { ⌜ length (now bytes) ≡ 102 ⌝ }
     ensures { λ r. ⌜ r ≡ optionsAt (now (bytes .entry)) ⌝ }
 {
-    let flags = flags_of(bytes[0]);
-    let pragma = optional_at(bytes, 1);
-    let pragma_frag = optional_at(bytes, 6);
-    let import_source = optional_at(bytes, 11);
-    let ts_pragma = optional_at(bytes, 16);
-    let ts_pragma_frag = optional_at(bytes, 21);
+    let flags = flags_of(bytes[layout::FLAGS] as u16);
+    let pragma = optional_at(bytes, layout::PRAGMA);
+    let pragma_frag = optional_at(bytes, layout::PRAGMA_FRAG);
+    let import_source = optional_at(bytes, layout::IMPORT_SOURCE);
+    let ts_pragma = optional_at(bytes, layout::TS_PRAGMA);
+    let ts_pragma_frag = optional_at(bytes, layout::TS_PRAGMA_FRAG);
     Options {
         flags,
         pragma,
@@ -185,12 +170,12 @@ fn settings_at(bytes: &[u8]) -> Settings
     ensures { λ r. ⌜ r ≡ settingsAt (now (bytes .entry)) ⌝ }
 {
     let options = options_at(bytes);
-    let mode = mode_of(bytes[27]);
-    let pragma = form_at(bytes, 28);
-    let pragma_frag = form_at(bytes, 37);
+    let mode = mode_of(bytes[layout::MODE]);
+    let pragma = form_at(bytes, layout::FORM);
+    let pragma_frag = form_at(bytes, layout::FORM_FRAG);
     Settings {
         options,
-        pure: bytes[26] == 1,
+        pure: bytes[layout::PURE] == 1,
         mode,
         pragma,
         pragma_frag,
@@ -203,21 +188,21 @@ fn state_at(bytes: &[u8]) -> State
 {
     let settings = settings_at(bytes);
     let records = [
-        record_at(bytes, 46),
-        record_at(bytes, 50),
-        record_at(bytes, 54),
-        record_at(bytes, 58),
-        record_at(bytes, 62),
-        record_at(bytes, 66),
-        record_at(bytes, 70),
-        record_at(bytes, 74),
+        record_at(bytes, layout::RECORD_1),
+        record_at(bytes, layout::RECORD_2),
+        record_at(bytes, layout::RECORD_3),
+        record_at(bytes, layout::RECORD_4),
+        record_at(bytes, layout::RECORD_5),
+        record_at(bytes, layout::RECORD_6),
+        record_at(bytes, layout::RECORD_7),
+        record_at(bytes, layout::RECORD_8),
     ];
     State {
         settings,
         records,
-        count: read_u64(bytes, 78),
-        calls: read_u64(bytes, 86),
-        notices: read_u64(bytes, 94),
+        count: read_u64(bytes, layout::COUNT),
+        calls: read_u64(bytes, layout::CALLS),
+        notices: read_u64(bytes, layout::NOTICES),
     }
 }
 
@@ -225,32 +210,35 @@ fn good_options(bytes: &[u8]) -> bool
     requires { ⌜ length (now bytes) ≡ 102 ⌝ }
     ensures { λ r. ⌜ r ≡ goodOptions (now (bytes .entry)) ⌝ }
 {
-    good_optional(bytes, 1)
-        & good_optional(bytes, 6)
-        & good_optional(bytes, 11)
-        & good_optional(bytes, 16)
-        & good_optional(bytes, 21)
+    good_optional(bytes, layout::PRAGMA)
+        & good_optional(bytes, layout::PRAGMA_FRAG)
+        & good_optional(bytes, layout::IMPORT_SOURCE)
+        & good_optional(bytes, layout::TS_PRAGMA)
+        & good_optional(bytes, layout::TS_PRAGMA_FRAG)
 }
 
 fn good_settings(bytes: &[u8]) -> bool
     requires { ⌜ length (now bytes) ≡ 102 ⌝ }
     ensures { λ r. ⌜ r ≡ goodSettings (now (bytes .entry)) ⌝ }
 {
-    (bytes[26] < 2) & (bytes[27] < 3) & (bytes[28] < 4) & (bytes[37] < 4)
+    (bytes[layout::PURE] < 2)
+        & (bytes[layout::MODE] < 3)
+        & (bytes[layout::FORM] < 4)
+        & (bytes[layout::FORM_FRAG] < 4)
 }
 
 fn good_records(bytes: &[u8]) -> bool
     requires { ⌜ length (now bytes) ≡ 102 ⌝ }
     ensures { λ r. ⌜ r ≡ goodRecords (now (bytes .entry)) ⌝ }
 {
-    good_record(bytes, 46)
-        & good_record(bytes, 50)
-        & good_record(bytes, 54)
-        & good_record(bytes, 58)
-        & good_record(bytes, 62)
-        & good_record(bytes, 66)
-        & good_record(bytes, 70)
-        & good_record(bytes, 74)
+    good_record(bytes, layout::RECORD_1)
+        & good_record(bytes, layout::RECORD_2)
+        & good_record(bytes, layout::RECORD_3)
+        & good_record(bytes, layout::RECORD_4)
+        & good_record(bytes, layout::RECORD_5)
+        & good_record(bytes, layout::RECORD_6)
+        & good_record(bytes, layout::RECORD_7)
+        & good_record(bytes, layout::RECORD_8)
 }
 
 fn good_state(bytes: &[u8]) -> bool
@@ -297,7 +285,7 @@ fn no_state() -> State
 pub fn unpack(bytes: &[u8]) -> Unpacked
     ensures { λ r. ⌜ r ≡ unpackedAnswer (unpacked (now (bytes .entry))) ⌝ }
 {
-    if bytes.len() != 102 {
+    if bytes.len() != layout::STATE_SIZE {
         let state = no_state();
         return Unpacked { good: false, state };
     }

@@ -4,18 +4,18 @@ ghost use mathlib.Core.List.{[], _∷_, _++_};
 ghost use Prim.Native.Nat.{_≤_, _^_};
 ghost use lib.ListN.{length};
 ghost use Rattle.tape.specs.Targets.{Wrote};
-ghost use Rattle.definitions.specs.States.{rootNumber};
 ghost use Rattle.packing.specs.Packed.{u64Bytes, weight, flagsByte, optionalBytes, modeNumber, formBytes, recordBytes, recordsBytes, optionsBytes, settingsBytes, packed, packedAnswer, packedTarget};
+use crate::layout::STATE_SIZE;
 use definitions::options::Flags;
 use definitions::options::Form;
 use definitions::options::Mode;
 use definitions::options::Optional;
 use definitions::options::Options;
-use definitions::options::PragmaRoot;
 use definitions::options::Settings;
 use definitions::records::Import;
 use definitions::records::Record;
 use definitions::state::State;
+use option_values::pragma_root_number;
 use tape::target::put;
 use tape::target::put_span;
 use tape::target::put_two;
@@ -83,22 +83,11 @@ fn mode_number(mode: Mode) -> u8
     }
 }
 
-fn root_number(root: PragmaRoot) -> u8
-    ensures { λ r. ⌜ r ≡ rootNumber root ⌝ }
-{
-    match root {
-        PragmaRoot::Default => 0,
-        PragmaRoot::This => 1,
-        PragmaRoot::ImportMeta => 2,
-        PragmaRoot::Identifier => 3,
-    }
-}
-
 fn put_form(form: Form, out: &mut [u8], at: usize) -> usize
     ensures { λ r. ⌜ Wrote (now (out .entry)) (now (out .exit)) at r (formBytes form) ⌝ }
 {
     let root = form.root;
-    let next = put(out, at, root_number(root));
+    let next = put(out, at, pragma_root_number(root));
     put_u64(form.tail, out, next)
 }
 
@@ -153,7 +142,7 @@ fn put_options(options: Options, out: &mut [u8]) -> usize
     put_optional(ts_pragma_frag, out, e)
 }
 
-// The settings' 46 bytes, from the target's front on.
+// The settings' bytes, from the target's front on.
 pub fn put_settings(settings: Settings, out: &mut [u8]) -> usize
     ensures { λ r. ⌜ Wrote (now (out .entry)) (now (out .exit)) 0 r (settingsBytes settings) ⌝ }
 {
@@ -179,14 +168,14 @@ fn put_state(state: State, out: &mut [u8]) -> usize
     put_u64(state.notices, out, d)
 }
 
-// The state's 102 bytes at the front of the target; a target that has no room for them stays as it is.
+// The state's bytes at the front of the target; a target that has no room for them stays as it is.
 pub fn pack(state: State, out: &mut [u8]) -> Packed
     ensures { λ r. ⌜ r ≡ packedAnswer (length (now (out .entry))) ⌝ }
     ensures { λ _. ⌜ now (out .exit) ≡ packedTarget state (now (out .entry)) ⌝ }
 {
-    if out.len() < 102 {
-        return Packed::Short(102);
+    if out.len() < STATE_SIZE {
+        return Packed::Short(STATE_SIZE);
     }
     put_state(state, out);
-    Packed::Written(102)
+    Packed::Written(STATE_SIZE)
 }

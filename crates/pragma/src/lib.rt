@@ -25,13 +25,13 @@ fn default_form() -> Form
 fn is_identifier_start(b: u8) -> bool
     ensures { λ r. ⌜ r ≡ isIdentifierStart b ⌝ }
 {
-    ((0x41 <= b) & (b <= 0x5a)) | ((0x61 <= b) & (b <= 0x7a)) | (b == 0x24) | (b == 0x5f)
+    ((b'A' <= b) & (b <= b'Z')) | ((b'a' <= b) & (b <= b'z')) | (b == b'$') | (b == b'_')
 }
 
 fn is_identifier_part(b: u8) -> bool
     ensures { λ r. ⌜ r ≡ isIdentifierPart b ⌝ }
 {
-    is_identifier_start(b) | ((0x30 <= b) & (b <= 0x39))
+    is_identifier_start(b) | ((b'0' <= b) & (b <= b'9'))
 }
 
 fn is_identifier_name(w: &[u8]) -> bool

@@ -1,4 +1,4 @@
--- Document 01, "Sheets to try": a line of the program, "each word followed by its bytes as space-parted lowercase hex".
+-- A line of the programs, as the specification has it: "each word followed by its bytes as space-parted lowercase hex".
 use Prim.Native.Nat.{ℕ, _+_, _/_, _%_}
 use mathlib.Core.Bool.{cond}
 use mathlib.Core.List.{List, [], _∷_, _++_}

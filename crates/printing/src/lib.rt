@@ -9,25 +9,29 @@ use tape::target::put;
 use tape::target::put_slice;
 use tape::target::put_two;
 
+// Ten before `a`, the digit of ten.
+const LETTERS: u8 = b'a' - 10;
+
 fn digit(n: u8) -> u8
     requires { ⌜ n < 16 ⌝ }
     ensures { λ r. ⌜ r ≡ hexDigit n ⌝ }
 {
     if n < 10 {
-        return 0x30 + n;
+        return b'0' + n;
     }
-    0x57 + n
+    LETTERS + n
 }
 
 // A space and the two digits of a byte.
 fn put_byte(out: &mut [u8], at: usize, b: u8) -> usize
     ensures { λ r. ⌜ Wrote (now (out .entry)) (now (out .exit)) at r (hexOf b) ⌝ }
 {
-    let next = put(out, at, 0x20);
+    let next = put(out, at, b' ');
     put_two(out, next, digit(b / 16), digit(b % 16))
 }
 
-fn put_bytes(bytes: &[u8], out: &mut [u8], at: usize) -> usize
+// The same for each of the bytes.
+pub fn put_bytes(bytes: &[u8], out: &mut [u8], at: usize) -> usize
     requires { ⌜ at ≤ 2 ^ 63 ⌝ }
     ensures { λ r. ⌜ Wrote (now (out .entry)) (now (out .exit)) at r (hexBytes (now (bytes .entry))) ⌝ }
 {
@@ -46,5 +50,5 @@ pub fn put_line(word: &[u8], bytes: &[u8], out: &mut [u8]) -> usize
 {
     let worded = put_slice(out, 0, word);
     let filled = put_bytes(bytes, out, worded);
-    put(out, filled, 0x0a)
+    put(out, filled, b'\n')
 }

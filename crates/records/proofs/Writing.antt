@@ -1,4 +1,4 @@
--- What writing a record tape answers and leaves in the target (`judgeTape` of specs, Tape), by the code's tests.
+-- What writing a record tape answers and leaves in the target (`judgeTape` of definitions, Entries), by the code's tests.
 --     Comes                       an answer and a target that a judgement comes to
 --     tape-size, tape-laid        what the two runs over the records give: the tape's length, and the target with the tape
 --     crowded, roomy              refusal 10, and a target with room
@@ -18,12 +18,12 @@ use Rattle.definitions.specs.declared.state.Written.{Written}
 use Rattle.definitions.specs.declared.state.Written.the-variants.{Accepted, Refused}
 use Rattle.definitions.specs.Judging.{Judged, refuse}
 use Rattle.definitions.specs.Records.{groupsFrom, entriesIn, groupTape, placeIn, fileNameTape, recordTape}
-use Rattle.definitions.specs.Entries.{laid, recordsAnswer, recordsTarget}
+use Rattle.definitions.specs.Entries.{laid, judgeTape, recordsAnswer, recordsTarget}
 use Rattle.records.specs.declared.groups.Groups.{Groups}
 use Rattle.records.specs.declared.groups.Groups.the-variants.{Empty, One, Two}
 use Rattle.records.specs.declared.record_tape.Part.the-variants.{Group, FileName}
 use Rattle.records.specs.Grouping.{sourcesOf}
-use Rattle.records.specs.Tape.{tapeOf, judgeTape}
+use Rattle.records.specs.Tape.{tapeOf}
 use Rattle.records.proofs.Tape.{part-group, part-file, part-length}
 
 abbrev pub Comes : Judged (List ℕ) → Written → List ℕ → List ℕ → Type 0
@@ -68,9 +68,9 @@ module _ (m : Mode) (g : Groups) (rs : List Record) (e : sourcesOf g ≡ groupsF
 -- ---- by the code's tests
 
 pub crowded : (t o : List ℕ) → length o < length t → Comes (judgeTape t (length o)) (Refused (Space (length t))) o o
-unfolding judgeTape refuse recordsAnswer recordsTarget
+unfolding refuse recordsAnswer recordsTarget
 crowded t o h = rw (lt-ltb (length o) (length t) h) (refl, refl)
 
 pub roomy : (t o : List ℕ) → length t ≤ length o → Comes (judgeTape t (length o)) (Accepted (length t)) o (laid 0 t o)
-unfolding judgeTape refuse recordsAnswer recordsTarget
+unfolding refuse recordsAnswer recordsTarget
 roomy t o h = rw (le-ltb (length o) (length t) h) (refl, refl)

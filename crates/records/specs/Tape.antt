@@ -1,13 +1,9 @@
 -- The record tape as the code writes it: in walks through the records, each of which writes one part.
 use Prim.Native.Nat.{ℕ}
 use mathlib.Core.List.{List, [], _∷_, _++_}
-use lib.ListN.{length}
-use lib.Dec.{ltb}
-use Rattle.tape.specs.declared.refusal.Refusal.the-variants.{Space}
 use Rattle.definitions.specs.declared.options.Mode.{Mode}
 use Rattle.definitions.specs.declared.records.Import.{Import}
 use Rattle.definitions.specs.declared.records.Record.{Record}
-use Rattle.definitions.specs.Judging.{Judged, accepted, refuse}
 use Rattle.definitions.specs.Records.{entryIn, groupTape, placeIn, fileNameEntry, fileNameTape}
 use Rattle.records.specs.declared.groups.Groups.{Groups}
 use Rattle.records.specs.declared.record_tape.Part.{Part}
@@ -26,7 +22,3 @@ partTape p (r ∷ rs) = entryOf p (r .import) (r .binding) ++ partTape p rs
 -- the tape of records whose groups these are
 unfoldable pub tapeOf : Mode → Groups → List Record → List ℕ
 tapeOf m g rs = groupTape rs (sourcesOf g) ++ fileNameTape (placeIn m) rs
-
--- "target cannot take all output": the last of the tests that judge a writing of records
-unfoldable pub judgeTape : List ℕ → ℕ → Judged (List ℕ)
-judgeTape t room = refuse (ltb room (length t)) (Space (length t)) (accepted t)

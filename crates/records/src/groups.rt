@@ -6,6 +6,7 @@ ghost use Prim.Native.Nat.{_≤_, _<_};
 ghost use lib.ListN.{take};
 ghost use Rattle.definitions.specs.Records.{withGroup, groupedBy, groupsFrom};
 ghost use Rattle.records.specs.Grouping.{sourcesOf, Apart, Are, knownSource, knownSources};
+use definitions::records::IMPORT_SOURCE;
 use definitions::records::Import;
 use definitions::records::Record;
 
@@ -41,14 +42,14 @@ fn with_group(groups: Groups, source: u8, front: bool) -> Groups
     }
 }
 
-// A script requires source 0 in front; the file name stands in no group.
+// A script requires the import source in front; the file name stands in no group.
 fn grouped_by(groups: Groups, import: Import) -> Groups
     requires { ⌜ (knownSource import ≡ true) × Apart groups ⌝ }
     ensures { λ r. ⌜ Are r (groupedBy (sourcesOf groups) import) ⌝ }
 {
     match import {
         Import::Named(source, _) => with_group(groups, source, false),
-        Import::Default(source) => with_group(groups, source, source == 0),
+        Import::Default(source) => with_group(groups, source, source == IMPORT_SOURCE),
         Import::FileName => groups,
     }
 }

@@ -6,12 +6,16 @@ ghost use Prim.Native.Nat.{_≤_, _^_};
 ghost use lib.ListN.{length, take};
 ghost use Rattle.tape.specs.Targets.{Wrote};
 ghost use Rattle.definitions.specs.Records.{entryIn, fileNameEntry, entriesIn, groupTape, placeIn, recordTape};
-ghost use Rattle.definitions.specs.Entries.{recordsAnswer, recordsTarget};
+ghost use Rattle.definitions.specs.Entries.{judgeTape, recordsAnswer, recordsTarget};
 ghost use Rattle.records.specs.Grouping.{sourcesOf, knownSources};
-ghost use Rattle.records.specs.Tape.{entryOf, partTape, tapeOf, judgeTape};
+ghost use Rattle.records.specs.Tape.{entryOf, partTape, tapeOf};
 use crate::groups::Groups;
 use crate::groups::groups_of;
 use definitions::options::Mode;
+use definitions::record_tape::DEFAULT;
+use definitions::record_tape::FILE_NAME;
+use definitions::record_tape::GROUP;
+use definitions::record_tape::NAMED;
 use definitions::records::Import;
 use definitions::records::Record;
 use definitions::state::Written;
@@ -33,14 +37,14 @@ fn put_in_group(source: u8, import: Import, binding: u8, out: &mut [u8], at: usi
     match import {
         Import::Named(of, name) => {
             if source == of {
-                let next = put_two(out, at, 0xb1, name);
+                let next = put_two(out, at, NAMED, name);
                 return put(out, next, binding);
             }
             at
         }
         Import::Default(of) => {
             if source == of {
-                return put_two(out, at, 0xb2, binding);
+                return put_two(out, at, DEFAULT, binding);
             }
             at
         }
@@ -57,7 +61,7 @@ fn put_file_name(place: u8, import: Import, binding: u8, out: &mut [u8], at: usi
         Import::Named(_, _) => at,
         Import::Default(_) => at,
         Import::FileName => {
-            let next = put_two(out, at, 0xb3, binding);
+            let next = put_two(out, at, FILE_NAME, binding);
             put(out, next, place)
         }
     }
@@ -94,7 +98,7 @@ fn put_group(source: u8, records: [Record; 8], n: usize, out: &mut [u8], at: usi
     requires { ⌜ n ≤ 8 ⌝ }
     ensures { λ r. ⌜ Wrote (now (out .entry)) (now (out .exit)) at r (0xb0 ∷ source ∷ entriesIn source (take n records)) ⌝ }
 {
-    let next = put_two(out, at, 0xb0, source);
+    let next = put_two(out, at, GROUP, source);
     put_part(Part::Group(source), records, n, out, next)
 }
 

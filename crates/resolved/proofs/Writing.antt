@@ -29,27 +29,9 @@ use Rattle.definitions.specs.declared.state.Written.the-variants as written
 use Rattle.definitions.specs.Judging.{Judged, accepted}
 use Rattle.definitions.proofs.Verdicts.{past}
 use Rattle.definitions.specs.Opening.{orReact, importSource, runtimeSource}
-use Rattle.definitions.specs.Entries.{laid, recordsAnswer, recordsTarget}
-use Rattle.records.specs.Tape.{judgeTape}
+use Rattle.definitions.specs.Entries.{laid, judgeTape, recordsAnswer, recordsTarget}
 use Rattle.records.proofs.Writing.{Comes, crowded, roomy}
-use Rattle.resolved.specs.Resolved.{runtimePath, sourceText, judgeState, behind}
-
--- ---- behind the tests
-
-module _ (text : List ℕ) (s : State) {a : Answer} (f : (j : Judged (List ℕ)) → judgeState text s j ≡ behind a j) where
-  pub state-short : a ≡ Accepted → length text ≤ 65535
-  unfolding judgeState behind
-  state-short e =
-      let k = f (accepted []) ∙ ap (λ (x : Answer). behind x (accepted [])) e in
-      ltb-false 65535 (length text) (past _ _ _ _ k .0)
-
-  pub state-refused : (x : Refusal) (j : Judged (List ℕ)) (o : List ℕ) → a ≡ Refused x → Comes (judgeState text s j) (written.Refused x) o o
-  unfolding behind recordsAnswer recordsTarget
-  state-refused x j o e = rw (f j, e) (refl, refl)
-
-  pub state-accepted : (j : Judged (List ℕ)) (o : List ℕ) {w : Written} {o′ : List ℕ} → a ≡ Accepted → Comes j w o o′ → Comes (judgeState text s j) w o o′
-  unfolding behind
-  state-accepted j o e h = rw (f j, e) h
+use Rattle.resolved.specs.Resolved.{runtimePath, sourceText}
 
 -- ---- the room
 

@@ -3,27 +3,24 @@
 //
 //     @jsxImportSource preact          B0 00 is "preact", B0 01 is "preact/jsx-runtime"
 ghost use mathlib.Core.Path.{_≡_};
-ghost use mathlib.Core.List.{List};
-ghost use Prim.Native.Nat.{ℕ, _≤_, _^_};
+ghost use Prim.Native.Nat.{_≤_, _^_};
 ghost use lib.ListN.{length};
-ghost use Rattle.definitions.specs.Judging.{Judged};
-ghost use Rattle.definitions.specs.Entries.{recordsAnswer, recordsTarget};
+ghost use Rattle.definitions.specs.Entries.{judgeTape, recordsAnswer, recordsTarget};
 ghost use Rattle.definitions.specs.Opening.{orReact, importSource, runtimeSource};
-ghost use Rattle.records.specs.Tape.{judgeTape};
 ghost use Rattle.tape.specs.Targets.{Wrote};
-ghost use Rattle.resolved.specs.Resolved.{runtimePath, sourceText, judgeState, behind, judgeSource, judgeSettings};
+ghost use Rattle.resolved.specs.Resolved.{runtimePath, sourceText, judgeSource, judgeSettings};
 use definitions::options::Optional;
 use definitions::options::Options;
+use definitions::records::IMPORT_SOURCE;
 use definitions::state::Answer;
 use definitions::state::State;
 use definitions::state::Written;
+use packing::layout::SETTINGS_SIZE;
 use packing::writing::put_settings;
-use store::forged::is_sound;
+use store::judging::judge_state;
 use tape::refusal::Refusal;
 use tape::target::put_slice;
-use text::bytes::Found;
 use text::spans::part;
-use text::utf8::first_ill_formed;
 
 // ---- the sources of imports
 
@@ -73,7 +70,7 @@ pub fn put_runtime_source(text: &[u8], options: Options, out: &mut [u8], at: usi
 fn put_source(text: &[u8], options: Options, source: u8, out: &mut [u8]) -> usize
     ensures { λ r. ⌜ Wrote (now (out .entry)) (now (out .exit)) 0 r (sourceText (now (text .entry)) options source) ⌝ }
 {
-    if source == 0 {
+    if source == IMPORT_SOURCE {
         let setting = options.import_source;
         return put_import_source(text, setting, out, 0);
     }
@@ -81,24 +78,6 @@ fn put_source(text: &[u8], options: Options, source: u8, out: &mut [u8]) -> usiz
 }
 
 // ---- the entries
-
-// Text and state as writing records judges them.
-fn judge_state(text: &[u8], state: State) -> Answer
-    ensures { λ r. ⌜ ((j : Judged (List ℕ)) → judgeState (now (text .entry)) state j ≡ behind r j) ⌝ }
-{
-    if 65535 < text.len() {
-        return Answer::Refused(Refusal::TooLong);
-    }
-    match first_ill_formed(text) {
-        Found::At(place) => Answer::Refused(Refusal::NotUtf8(place)),
-        Found::Nothing => {
-            if is_sound(text, state) {
-                return Answer::Accepted;
-            }
-            Answer::Refused(Refusal::Forged)
-        }
-    }
-}
 
 // The source where there is room for it: it is measured first.
 fn write_fitting(text: &[u8], options: Options, source: u8, target: &mut [u8]) -> Written
@@ -130,7 +109,7 @@ pub fn write_source(text: &[u8], state: State, source: u8, target: &mut [u8]) ->
     }
 }
 
-// The settings' 46 bytes at the front of the target.
+// The settings' bytes at the front of the target.
 pub fn write_settings(text: &[u8], state: State, target: &mut [u8]) -> Written
     ensures { λ r. ⌜ r ≡ recordsAnswer (judgeSettings (now (text .entry)) state (length (now (target .entry)))) ⌝ }
     ensures { λ _. ⌜ now (target .exit) ≡ recordsTarget (now (target .entry)) (judgeSettings (now (text .entry)) state (length (now (target .entry)))) ⌝ }
@@ -138,12 +117,12 @@ pub fn write_settings(text: &[u8], state: State, target: &mut [u8]) -> Written
     match judge_state(text, state) {
         Answer::Refused(refusal) => Written::Refused(refusal),
         Answer::Accepted => {
-            if target.len() < 46 {
-                return Written::Refused(Refusal::Space(46));
+            if target.len() < SETTINGS_SIZE {
+                return Written::Refused(Refusal::Space(SETTINGS_SIZE));
             }
             let settings = state.settings;
             put_settings(settings, target);
-            Written::Accepted(46)
+            Written::Accepted(SETTINGS_SIZE)
         }
     }
 }

@@ -24,7 +24,8 @@ use Rattle.commands.specs.Opening.{optionWith, optionCommand}
 use Rattle.definitions.specs.declared.options.Options.{Options}
 use Rattle.definitions.specs.Judging.{Parsed, done, stop, from, spanned, Judged, accepted, refused, read}
 use Rattle.definitions.specs.Comments.{withComments}
-use Rattle.definitions.specs.Opening.{Opening, bare, withPragma, withPragmaFrag, withImportSource, andComment, optionBy, optionsFrom, readOpening, optionsOf, settingsOf, pragmasChecked}
+use Rattle.definitions.specs.Opening.{Opening, bare, withPragma, withPragmaFrag, withImportSource, andComment, optionBy, optionsFrom, readOpening}
+use Rattle.definitions.specs.Opening.{optionsOf, settingsOf, pragmasChecked}
 use Rattle.comments.specs.Tapes.{commentsOf}
 use Rattle.comments.proofs.Tapes.{comments-front}
 use Rattle.settings.specs.declared.opening.Next.{Next}
@@ -45,7 +46,8 @@ Front t (option.Comment s) = (5 ≤ length t) × (commentsOf t ≡ s ∷ comment
 -- with operands: cut off, or whole
 front-with : (b : ℕ) (t : List ℕ) (c : Span → OptionCommand) → Front (b ∷ t) option.Cut → (4 ≤ length t → Front (b ∷ t) (c (spanAt t 0)))
     → Front (b ∷ t) (optionWith c t)
-front-with b t c x f = go (ltb (length t) 4) refl
+front-with b t c x f =
+    go (ltb (length t) 4) refl
   where
     go : (u : Bool) → ltb (length t) 4 ≡ u → Front (b ∷ t) (cond u option.Cut (c (spanAt t 0)))
     go true e = x

@@ -1,4 +1,4 @@
--- What the walks over the opening tape give, in the terms of document 01's definitions.
+-- What the walks over the opening tape give, in the terms of crate `definitions`.
 use Prim.Native.Nat.{ℕ, suc}
 use mathlib.Core.List.{List}
 use lib.ListN.{length, drop, replicate}

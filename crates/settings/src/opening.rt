@@ -10,12 +10,12 @@ ghost use Rattle.definitions.specs.Opening.{bare, readOpening, pragmasChecked};
 ghost use Rattle.definitions.specs.Entries.{openedBy, opened};
 ghost use Rattle.settings.specs.Tapes.{optionsBefore, withGiven, spannedBy, nextBy, judgedOptions, judgedBy, behindFlags, stateWith, openedTape};
 use crate::jsx_impl::new;
-use crate::options::conform;
-use crate::options::flags_of;
+use commands::codes;
 use commands::opening::FlagsCommand;
 use commands::opening::OptionCommand;
 use commands::opening::flags_command_at;
 use commands::opening::option_command_at;
+use commands::sizes;
 use comments::update_options_with_comments;
 use definitions::options::Optional;
 use definitions::options::Options;
@@ -25,7 +25,10 @@ use definitions::records::Record;
 use definitions::state::Answer;
 use definitions::state::State;
 use definitions::state::Stepped;
+use option_values::conform;
+use option_values::flags_of;
 use pragma::over_ascii_under;
+use tape::limits::MAX_LENGTH;
 use tape::refusal::Fault;
 use tape::refusal::Refusal;
 use text::bytes::Found;
@@ -95,17 +98,17 @@ fn next_command(text: &[u8], last: u8, options: Options, tape: &[u8]) -> Next
         OptionCommand::Cut => Next::Stop(Fault::Grammar, tape.len()),
         OptionCommand::Pragma(s) => {
             let given = with_given(options, Optional::Present(s), pragma_frag, import_source);
-            spanned(text, s, 0x62, given)
+            spanned(text, s, codes::PRAGMA, given)
         }
         OptionCommand::PragmaFrag(s) => {
             let given = with_given(options, pragma, Optional::Present(s), import_source);
-            spanned(text, s, 0x63, given)
+            spanned(text, s, codes::PRAGMA_FRAG, given)
         }
         OptionCommand::ImportSource(s) => {
             let given = with_given(options, pragma, pragma_frag, Optional::Present(s));
-            spanned(text, s, 0x64, given)
+            spanned(text, s, codes::IMPORT_SOURCE, given)
         }
-        OptionCommand::Comment(s) => spanned(text, s, 0x64, options),
+        OptionCommand::Comment(s) => spanned(text, s, codes::IMPORT_SOURCE, options),
     }
 }
 
@@ -129,8 +132,8 @@ fn read_options(text: &[u8], n: u16, tape: &[u8]) -> OpeningRead
     ensures { λ r. ⌜ judgedOptions (now (text .entry)) (behindFlags (now (text .entry)) (now (tape .entry)) n) ≡ judgedBy (now (text .entry)) (now (tape .entry)) r ⌝ }
 {
     let mut options = bare_options(n);
-    let mut last: u8 = 0x61;
-    let mut i = 3;
+    let mut last: u8 = codes::FLAGS;
+    let mut i = sizes::WITH_FLAGS;
     loop {
         match next_command(text, last, options, &tape[i..]) {
             Next::End => return OpeningRead::Done(options),
@@ -138,7 +141,7 @@ fn read_options(text: &[u8], n: u16, tape: &[u8]) -> OpeningRead
             Next::More(next, behind) => {
                 last = next;
                 options = behind;
-                i += 5;
+                i += sizes::WITH_SPAN;
             }
         }
     }
@@ -227,10 +230,10 @@ fn open_text(text: &[u8], tape: &[u8]) -> Stepped
 pub fn open_job(text: &[u8], tape: &[u8]) -> Stepped
     ensures { λ r. ⌜ r ≡ opened (now (text .entry)) (now (tape .entry)) ⌝ }
 {
-    if 65535 < text.len() {
+    if MAX_LENGTH < text.len() {
         return refused(Refusal::TooLong);
     }
-    if 65535 < tape.len() {
+    if MAX_LENGTH < tape.len() {
         return refused(Refusal::TooLong);
     }
     match first_ill_formed(text) {

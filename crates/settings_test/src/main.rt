@@ -7,6 +7,7 @@
 // \n \r \t \v \f \" \\ and \xHH. A line that begins with a number sign says where the jobs behind it come from.
 ghost use Prim.Native.Nat.{_≤_, _<_};
 ghost use lib.ListN.{length};
+use commands::codes;
 use definitions::options::Flags;
 use definitions::options::Form;
 use definitions::options::Mode;
@@ -53,10 +54,10 @@ fn put_command(tape: &mut [u8], at: usize, command: u8, start: usize, end: usize
 // The byte for the first letter of a command's word; 0 for any other, which no tape has.
 fn command_of(letter: u8) -> u8 {
     match letter {
-        b'c' => 0x60,
-        b'p' => 0x62,
-        b'f' => 0x63,
-        b'i' => 0x64,
+        b'c' => codes::COMMENT,
+        b'p' => codes::PRAGMA,
+        b'f' => codes::PRAGMA_FRAG,
+        b'i' => codes::IMPORT_SOURCE,
         _ => 0,
     }
 }
@@ -147,7 +148,7 @@ struct Job {
 fn read_job(line: &[u8], text: &mut [u8], tape: &mut [u8]) -> Job
     ensures { λ r. ⌜ (r .text ≤ length (now (text .exit))) × (r .tape ≤ length (now (tape .exit))) ⌝ }
 {
-    let command = put(tape, 0, 0x61);
+    let command = put(tape, 0, codes::FLAGS);
     let low = put(tape, command, byte_at(line, 2));
     let mut out = put(tape, low, byte_at(line, 0));
     let mut at = 0;
@@ -332,10 +333,10 @@ fn run_long(pairs: usize, even: u8, odd: u8, rest: &[u8], text: &mut [u8], tape:
     }
     let places = read_quoted(rest, 0, text, at);
     let end = places.text;
-    let command = put(tape, 0, 0x61);
+    let command = put(tape, 0, codes::FLAGS);
     let low = put(tape, command, 0x09);
     let high = put(tape, low, 0x00);
-    let tape_end = put_command(tape, high, 0x60, 0, end);
+    let tape_end = put_command(tape, high, codes::COMMENT, 0, end);
     open(&text[0..end], &tape[0..tape_end]);
 }
 

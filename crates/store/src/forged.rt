@@ -7,17 +7,24 @@ ghost use Prim.Native.Nat.{_≤_};
 ghost use lib.ListN.{take};
 ghost use Rattle.definitions.specs.Store.{sourceOf, canName, canImport, canRequire, canBind};
 ghost use Rattle.definitions.specs.Opening.{formUnder, overAsciiIn, ifClassic};
-ghost use Rattle.definitions.specs.States.{inOrder, borneOut, spansBorneOut, rootNumber, sameForm, formBorneOut, formsBorneOut, sound, overfilled};
+ghost use Rattle.definitions.specs.States.{inOrder, borneOut, spansBorneOut, sameForm, formBorneOut, formsBorneOut, sound, overfilled};
 ghost use Rattle.store.specs.Following.{following};
 use definitions::options::Form;
 use definitions::options::Mode;
 use definitions::options::Optional;
 use definitions::options::Options;
-use definitions::options::PragmaRoot;
 use definitions::options::Settings;
+use definitions::records::CREATE_ELEMENT;
+use definitions::records::FRAGMENT;
+use definitions::records::IMPORT_SOURCE;
 use definitions::records::Import;
+use definitions::records::JSX;
+use definitions::records::JSX_DEV;
+use definitions::records::JSXS;
+use definitions::records::RUNTIME_SOURCE;
 use definitions::records::Record;
 use definitions::state::State;
+use option_values::pragma_root_number;
 use pragma::form_under;
 use pragma::over_ascii_under;
 use records::finding::number_in;
@@ -63,23 +70,12 @@ fn spans_borne_out(text: &[u8], options: Options) -> bool
         & borne_out(text, ts_pragma_frag)
 }
 
-fn root_number(root: PragmaRoot) -> u8
-    ensures { λ r. ⌜ r ≡ rootNumber root ⌝ }
-{
-    match root {
-        PragmaRoot::Default => 0,
-        PragmaRoot::This => 1,
-        PragmaRoot::ImportMeta => 2,
-        PragmaRoot::Identifier => 3,
-    }
-}
-
 fn same_form(f: Form, g: Form) -> bool
     ensures { λ r. ⌜ r ≡ sameForm f g ⌝ }
 {
     let a = f.root;
     let b = g.root;
-    (root_number(a) == root_number(b)) & (f.tail == g.tail)
+    (pragma_root_number(a) == pragma_root_number(b)) & (f.tail == g.tail)
 }
 
 // Whether the text bears out the form of a pragma: it does for none that has a byte over 7F, since no opening takes it.
@@ -110,16 +106,20 @@ fn forms_borne_out(text: &[u8], settings: Settings) -> bool
 fn source_of(name: u8) -> u8
     ensures { λ r. ⌜ r ≡ sourceOf name ⌝ }
 {
-    if name == 1 { 0 } else { 1 }
+    if name == CREATE_ELEMENT {
+        IMPORT_SOURCE
+    } else {
+        RUNTIME_SOURCE
+    }
 }
 
 fn can_name(development: bool, name: u8) -> bool
     ensures { λ r. ⌜ r ≡ canName development name ⌝ }
 {
     if development {
-        return (name == 1) | (name == 0) | (name == 4);
+        return (name == CREATE_ELEMENT) | (name == FRAGMENT) | (name == JSX_DEV);
     }
-    (name == 1) | (name == 0) | ((name == 2) | (name == 3))
+    (name == CREATE_ELEMENT) | (name == FRAGMENT) | ((name == JSX) | (name == JSXS))
 }
 
 fn can_import(mode: Mode, development: bool, source: u8, name: u8) -> bool

@@ -3,16 +3,14 @@ ghost use mathlib.Core.Path.{_≡_};
 ghost use lib.ListN.{length};
 ghost use Rattle.definitions.specs.Entries.{judgeRecords, recordsAnswer, recordsTarget};
 ghost use Rattle.store.specs.Adding.{added};
-use crate::forged::is_sound;
+use crate::judging::judge_state;
 use definitions::records::Import;
 use definitions::records::Record;
+use definitions::state::Answer;
 use definitions::state::State;
 use definitions::state::Written;
 use records::finding::number_in;
 use records::record_tape::write_tape;
-use tape::refusal::Refusal;
-use text::bytes::Found;
-use text::utf8::first_ill_formed;
 
 // The first `count` of the records: what a job binds, in order of making.
 pub struct Store {
@@ -68,21 +66,14 @@ pub fn add_import(store: Store, import: Import) -> Added
     }
 }
 
-// The record tape into the target: document 01's refusals 1, 2, 12 and 10, in this order, leave the target as it is.
+// The record tape into the target: refusals 1, 2, 12 and 10, in this order, leave the target as it is.
 pub fn write_records(text: &[u8], state: State, target: &mut [u8]) -> Written
     ensures { λ r. ⌜ r ≡ recordsAnswer (judgeRecords (now (text .entry)) state (length (now (target .entry)))) ⌝ }
     ensures { λ _. ⌜ now (target .exit) ≡ recordsTarget (now (target .entry)) (judgeRecords (now (text .entry)) state (length (now (target .entry)))) ⌝ }
 {
-    if 65535 < text.len() {
-        return Written::Refused(Refusal::TooLong);
-    }
-    let ill = first_ill_formed(text);
-    match ill {
-        Found::At(place) => Written::Refused(Refusal::NotUtf8(place)),
-        Found::Nothing => {
-            if !is_sound(text, state) {
-                return Written::Refused(Refusal::Forged);
-            }
+    match judge_state(text, state) {
+        Answer::Refused(refusal) => Written::Refused(refusal),
+        Answer::Accepted => {
             let settings = state.settings;
             let mode = settings.mode;
             let records = state.records;

@@ -4,6 +4,7 @@ use crate::states::count_of;
 use definitions::records::Import;
 use definitions::state::State;
 use definitions::state::Written;
+use files::print_bytes;
 use libc::STDOUT_FILENO;
 use store::forged::is_forged;
 use store::module_imports::Store;
@@ -12,22 +13,12 @@ use store::module_imports::write_records;
 use tape::refusal::figure;
 use tape::refusal::number;
 
+// A space and two digits for each byte of the longest target.
+const LINE: usize = 32 * 3;
+
 fn say(word: &[u8], n: usize) {
     io::write_all(STDOUT_FILENO, word);
     io::print_decimal(STDOUT_FILENO, n as u64);
-}
-
-fn show_bytes(bytes: &[u8]) {
-    let mut i = 0;
-    while i < bytes.len() {
-        io::write_all(STDOUT_FILENO, b" ");
-        io::print_hex(STDOUT_FILENO, wide(bytes[i]), 2);
-        i += 1;
-    }
-}
-
-fn wide(b: u8) -> u64 {
-    b as u64
 }
 
 fn show_answer(written: Written) {
@@ -45,7 +36,8 @@ fn show_written(label: &[u8], text: &[u8], state: State, target: &mut [u8]) {
     io::write_all(STDOUT_FILENO, label);
     show_answer(written);
     io::write_all(STDOUT_FILENO, b":");
-    show_bytes(target);
+    let mut line = [0u8; LINE];
+    print_bytes(target, &mut line);
     io::write_all(STDOUT_FILENO, b"\n");
 }
 

@@ -32,7 +32,7 @@ pub bytes-written :
     ≡ 0xff ∷ 0xff ∷ 0xfe ∷ 0xff ∷ 0xff ∷ 0xff ∷ 1 ∷ 2 ∷ 3 ∷ 0 ∷ []
 bytes-written = refl
 
--- ---- refusals: document 01's table, "Turned away"
+-- ---- refusals: the table of docs/TAPES.md, Refusals
 
 pub refusal-numbers :
     map numberOf

@@ -1,4 +1,4 @@
--- Document 01: operands are little-endian. S is a span: start u16, length u16.
+-- Operands are little-endian (docs/TAPES.md). S is a span: start u16, length u16.
 use Prim.Native.Nat.{ℕ, _+_, _*_, _/_, _%_}
 use mathlib.Core.List.{List, [], _∷_, _++_}
 use lib.ListN.{getD}

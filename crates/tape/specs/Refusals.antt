@@ -1,4 +1,4 @@
--- Document 01, "Turned away": the number of a refusal and the figure that is returned with it.
+-- The number of a refusal and the figure that is returned with it: the table of docs/TAPES.md, Refusals.
 use Prim.Native.Nat.{ℕ}
 use Rattle.tape.specs.declared.refusal.Fault.{Fault}
 use Rattle.tape.specs.declared.refusal.Fault.the-variants.{Grammar, Outside, Cuts, EmptyName, Depth, Ampersand, Position}

@@ -1,6 +1,10 @@
-// Refusals by name, with document 01's number and figure for each.
+// Refusals by name, with the number and the figure of each: docs/TAPES.md, "Refusals".
 ghost use mathlib.Core.Path.{_≡_};
 ghost use Rattle.tape.specs.Refusals.{faultNumber, numberOf, figureOf};
+use crate::limits::MAX_LENGTH;
+
+// The number that an entry without a refusal of its own answers.
+pub const FORGED: u8 = 12;
 
 // What can be wrong at a command of a tape.
 pub enum Fault {
@@ -50,7 +54,7 @@ pub fn number(r: Refusal) -> u8
         Refusal::Bindings => 9,
         Refusal::Space(_) => 10,
         Refusal::NoticeSpace(_) => 11,
-        Refusal::Forged => 12,
+        Refusal::Forged => FORGED,
     }
 }
 
@@ -58,7 +62,7 @@ pub fn figure(r: Refusal) -> usize
     ensures { λ n. ⌜ n ≡ figureOf r ⌝ }
 {
     match r {
-        Refusal::TooLong => 65535,
+        Refusal::TooLong => MAX_LENGTH,
         Refusal::NotUtf8(p) => p,
         Refusal::Tape(_, p) => p,
         Refusal::PragmaByte(p) => p,

@@ -127,7 +127,7 @@ text = 0x61 ∷ 0xc3 ∷ 0xa9 ∷ 0x62 ∷ []
 abbrev span : ℕ → ℕ → Span
 span s n = record { start = s; len = n }
 
--- Document 01, refusal 4: past the end in three ways; cut at the start, at the end, and an empty span within the character; empty
+-- Refusal 4: past the end in three ways; cut at the start, at the end, and an empty span within the character; empty
 -- spans at the start, between characters and at the end; the character, and the whole text
 pub bounds :
     map (boundsOf text)

@@ -21,7 +21,7 @@ continues b = leb 0x80 b && leb b 0xbf
 unfoldable pub cutsAt : List ℕ → ℕ → Bool
 cutsAt text i = ltb i (length text) && continues (getD text i 0)
 
--- Document 01, refusal 4 ("span outside text, cutting a character, or an empty name"), each cause apart, the earlier before the later.
+-- Refusal 4 (docs/TAPES.md, Refusals), "span outside text, cutting a character, or an empty name": each cause apart, the earlier before the later.
 -- An empty span within a character cuts it.
 unfoldable pub boundsOf : List ℕ → Span → Bounds
 boundsOf text s =

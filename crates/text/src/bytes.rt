@@ -8,6 +8,9 @@ ghost use Rattle.text.specs.declared.bytes.Found.the-variants.{Nothing};
 ghost use Rattle.text.specs.Bytes.{findFrom, find, overAscii};
 ghost use Rattle.text.specs.Bytes as bytes;
 
+// The first byte that is not ASCII.
+pub const ASCII_END: u8 = 0x80;
+
 // The place of what was looked for.
 pub enum Found {
     At(usize),
@@ -88,7 +91,7 @@ fn is_ascii(s: &[u8]) -> bool
         all = all | s[i];
         i += 1;
     }
-    all < 0x80
+    all < ASCII_END
 }
 
 // How far the blocks of this size go, from a place on, that are ASCII throughout.
@@ -115,12 +118,12 @@ pub fn find_over_ascii(s: &[u8]) -> Found
         return Found::Nothing;
     }
     // a run of other characters should not pay for a block at each of them
-    if 0x80 <= s[0] {
+    if ASCII_END <= s[0] {
         return Found::At(0);
     }
     let mut i = ascii_blocks(s, ascii_blocks(s, 0, LONG), SHORT);
     while i < s.len() {
-        if 0x80 <= s[i] {
+        if ASCII_END <= s[i] {
             return Found::At(i);
         }
         i += 1;

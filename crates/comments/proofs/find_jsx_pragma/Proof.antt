@@ -22,10 +22,12 @@ abbrev Starts : Type 0
 Starts = tie.After-known-told2
 
 abbrev known-of : Starts → Known
-known-of c = c .before .before .before .before
+known-of c = (c .before .before .before .before)
 
 abbrev text : Known → List ℕ
-text c = c .before .before .before .before .before .before .before .args .comment .now
+text c =
+    let at-entry = c .before .before .before .before .before .before .before in
+    at-entry .args .comment .now
 
 abbrev behind : Known → ℕ
 behind c = c .before .found .given .0 .1 .0
@@ -33,7 +35,9 @@ behind c = c .before .found .given .0 .1 .0
 abbrev start : Starts → ℕ
 start c = c .before .start .given .0 .0
 
-hit : (c : Known) → seek (length (text c)) (text c) (c .before .before .before .before .before .before .before .args .at .now) ≡ pragma (knownFor (c .before .found .given .0 .0)) (behind c)
+hit : (c : Known)
+    → seek (length (text c)) (text c) (c .before .before .before .before .before .before .before .args .at .now) ≡ pragma
+    (knownFor (c .before .found .given .0 .0)) (behind c)
 unfolding searchFor
 hit c = told (c .before .before .before .find-keyword .ensures) (ap searchFor (c .before .found .given .1))
 
@@ -44,7 +48,7 @@ inside : (c : Starts) → start c < length (text (known-of c))
 inside c = place-range (isIn Ink) _ _ _ (starts c) .1
 
 value : (c : tie.After-value-of) → let s = c .before .before in c .value-of .result .now ≡ valueOf (drop (start s) (text (known-of s)))
-value c = let s = c .before .before in c .value-of .ensures ∙ ap valueOf (tail-part (text (known-of s)) (start s))
+value c = let s = (c .before .before) in c .value-of .ensures ∙ ap valueOf (tail-part (text (known-of s)) (start s))
 
 sub-none : tie.Need-sub-none
 sub-none c = search needs
@@ -96,9 +100,10 @@ value-of-requires c κs = search needs
 number-of-requires : tie.Need-number-of-requires
 number-of-requires c κs = search needs
 
+-- by paths
 add-at : tie.Need-add-at
 add-at c =
-    let s = c .before .before .before in
+    let s = (c .before .before .before) in
     let l = text (known-of s) in
     omega (arith, inside s, ap length (value (c .before)), value-length (drop (start s) l), length-drop (start s) l)
 

@@ -46,17 +46,23 @@ abbrev Ends : Type 0
 Ends = tie.Then3 Inv-loop μ-loop Inv-signs μ-signs
 
 abbrev sign-of : Ahead → Sign
-sign-of c = c .before .before .before .before .before .before
+sign-of c =
+    let at-entry = c .before .before .before .before .before .before in
+    at-entry
 
 abbrev counts-of : Byte → Counts
-counts-of c = c .before .before .before .before .before
+counts-of c =
+    let at-entry = c .before .before .before .before .before in
+    at-entry
 
 abbrev byte-of : Ends → Byte
-byte-of c = c .before .before
+byte-of c = (c .before .before)
 
 -- the comment, where what is left of it begins, and the at sign
 abbrev text : Sign → List ℕ
-text c = c .before .before .before .before .before .before .args .comment .now
+text c =
+    let at-entry = c .before .before .before .before .before .before in
+    at-entry .args .comment .now
 
 abbrev from : Sign → ℕ
 from c = c .before .before .before .before .signs .from
@@ -78,13 +84,18 @@ four : (c : Ahead) → let s = sign-of c in (4 ≤ length (text s) - sign s) × 
 four c = four-here _ _ _ (told (c .before .before .before .next4 .ensures) (c .before .bytes .given .1))
 
 bytes : (c : Sign) (k : ℕ) → getD (text c) k 0 < 256
-bytes c k = omega (arith, c .before .before .before .before .before .shared-slice-known .given k)
+bytes c k =
+    let at-shared-slice-known = c .before .before .before .before .before in
+    omega (arith, at-shared-slice-known .shared-slice-known .given k)
 
 does-count : (c : Counts) → let s = sign-of (c .before) in counts (text s) (from s) (sign s) ≡ true
 does-count c =
-    let f = four (c .before) in
-    counted _ _ _ (told (c .before .before .before .before .before .before .stands-well .ensures) (not-false _ (c .before .before .before .before .before .if1 .left)))
-    (jsx-here _ _ (f .0) (bytes (sign-of (c .before))) (f .1 ∙ c .if2 .left))
+    let at-four = c .before in
+    let at-if1 = at-four .before .before .before .before in
+    let at-stands-well = at-if1 .before in
+    let f = four at-four in
+    counted _ _ _ (told (at-stands-well .stands-well .ensures) (not-false _ (at-if1 .if1 .left)))
+    (jsx-here _ _ (f .0) (bytes (sign-of at-four)) (f .1 ∙ c .if2 .left))
 
 -- a byte of the keyword, and the one that ends it
 byte : (c : Byte) → let l = text (sign-of (counts-of c .before)) in let end = c .before .before .before .before .loop .end in
@@ -94,8 +105,9 @@ byte c = byte-here _ _ _ (told (c .before .before .before .byte-at .ensures) (c 
 word-end : (c : Ends) → let s = sign-of (counts-of (byte-of c) .before) in
     placeFrom isBlank (text s) (sign s + 4) ≡ At (c .before .before .before .before .before .before .loop .end)
 word-end c =
+    let at-loop = c .before .before .before .before .before .before in
     let b = byte (byte-of c) in
-    c .before .before .before .before .before .before .loop .inv .1 ∙ find-hit _ _ _ (b .0) (ap isBlank (b .1) ∙ told (c .before .is-in .ensures) (c .if3 .taken))
+    at-loop .loop .inv .1 ∙ find-hit _ _ _ (b .0) (ap isBlank (b .1) ∙ told (c .before .is-in .ensures) (c .if3 .taken))
 
 signs-holds : tie.Need-signs-holds Inv-loop μ-loop Inv-signs μ-signs
 signs-holds c = (search needs, begin _ _)
@@ -124,7 +136,8 @@ signs-less c = omega (arith, range (c .before .before))
 
 signs-again : tie.Need-signs-again Inv-loop μ-loop Inv-signs μ-signs
 signs-again c =
-    let s = c .before .before in
+    let at-entry = c .before .before in
+    let s = at-entry in
     (omega (arith, range s), reject _ _ _ _ (reach s) (found s) (ill-placed _ _ _ (told (c .before .stands-well .ensures) (not-true _ (c .if1 .taken)))))
 
 next4-requires : tie.Need-next4-requires Inv-loop μ-loop Inv-signs μ-signs
@@ -139,8 +152,10 @@ enum-told-2 c = search needs
 returns-2 : tie.Need-returns-2 Inv-loop μ-loop Inv-signs μ-signs
 unfolding searchFor
 returns-2 c =
-    let s = c .before .before .before .before .before in
-    sym (cut _ _ _ _ (reach s) (found s) (told (c .before .before .next4 .ensures) (c .enum-told2 .given .1)))
+    let at-next4 = c .before .before in
+    let at-entry = at-next4 .before .before .before in
+    let s = at-entry in
+    sym (cut _ _ _ _ (reach s) (found s) (told (at-next4 .next4 .ensures) (c .enum-told2 .given .1)))
 
 signs-less-2 : tie.Need-signs-less-2 Inv-loop μ-loop Inv-signs μ-signs
 signs-less-2 c = omega (arith, range (sign-of (c .before)))
@@ -186,6 +201,7 @@ part-word-start c = search needs
 part-word-end : tie.Need-part-word-end Inv-loop μ-loop Inv-signs μ-signs
 part-word-end c = omega (arith, byte (c .before .before))
 
+-- by paths
 add-end : tie.Need-add-end Inv-loop μ-loop Inv-signs μ-signs
 add-end c = omega (arith, byte (c .before .before))
 
@@ -194,9 +210,12 @@ loop-less c = omega (arith, byte (c .before .before))
 
 loop-again : tie.Need-loop-again Inv-loop μ-loop Inv-signs μ-signs
 loop-again c =
-    let b = byte (c .before .before) in
-    (omega arith, c .before .before .before .before .before .before .loop .inv .1 ∙ find-step _ _ _ (b .0) (ap isBlank (b .1) ∙ told (c .before .is-in .ensures) (c .if3 .left)))
+    let at-byte = c .before .before in
+    let at-loop = at-byte .before .before .before .before in
+    let b = byte at-byte in
+    (omega arith, at-loop .loop .inv .1 ∙ find-step _ _ _ (b .0) (ap isBlank (b .1) ∙ told (c .before .is-in .ensures) (c .if3 .left)))
 
+-- by paths
 add-from-2 : tie.Need-add-from-2 Inv-loop μ-loop Inv-signs μ-signs
 add-from-2 c = omega (arith, byte (c .before .before .before))
 
@@ -217,20 +236,24 @@ signs-less-3 c =
 signs-again-3 : tie.Need-signs-again-3 Inv-loop μ-loop Inv-signs μ-signs
 unfolding keywordFor
 signs-again-3 c =
-    let e = c .before .before .before .before in
+    let at-keyword-of = c .before .before in
+    let at-entry = at-keyword-of .before .before in
+    let e = at-entry in
     let d = counts-of (byte-of e) in
     let s = sign-of (d .before) in (
       omega (arith, byte (byte-of e)),
-      not-known _ _ _ _ (reach s) (found s) (does-count d) _ (word-end e) (told (c .before .before .keyword-of .ensures) (ap keywordFor (c .enum-told4 .given .1))),
+      not-known _ _ _ _ (reach s) (found s) (does-count d) _ (word-end e) (told (at-keyword-of .keyword-of .ensures) (ap keywordFor (c .enum-told4 .given .1))),
     )
 
 returns-4 : tie.Need-returns-4 Inv-loop μ-loop Inv-signs μ-signs
 unfolding searchFor keywordFor
 returns-4 c =
-    let e = c .before .before .before .before .before in
+    let at-keyword-of = c .before .before .before in
+    let at-entry = at-keyword-of .before .before in
+    let e = at-entry in
     let d = counts-of (byte-of e) in
     let s = sign-of (d .before) in
-    sym (known _ _ _ _ (reach s) (found s) (does-count d) _ (word-end e) _ (told (c .before .before .before .keyword-of .ensures) (ap keywordFor (c .before .kind .given .1))))
+    sym (known _ _ _ _ (reach s) (found s) (does-count d) _ (word-end e) _ (told (at-keyword-of .keyword-of .ensures) (ap keywordFor (c .before .kind .given .1))))
 
 pub find-keyword-spec : {M : Type 1} → statement M
 find-keyword-spec =

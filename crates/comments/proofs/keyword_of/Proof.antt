@@ -39,10 +39,14 @@ same-requires-3 c κs = search needs
 returns-3 : tie.Need-returns-3
 unfolding keywordFor knownFor keywordOf
 returns-3 c =
+    let at-if2 = c .before .before .before in
+    let at-same2 = at-if2 .before in
+    let at-if1 = at-same2 .before .before in
+    let at-same = at-if1 .before in
     sym (rw (
-      told (c .before .before .before .before .before .before .before .same .ensures)
-          (c .before .before .before .before .before .before .if1 .left),
-      told (c .before .before .before .before .same2 .ensures) (c .before .before .before .if2 .left),
+      told (at-same .same .ensures)
+          (at-if1 .if1 .left),
+      told (at-same2 .same2 .ensures) (at-if2 .if2 .left),
       told (c .before .same3 .ensures) (c .if3 .taken),
     ))
 
@@ -55,22 +59,34 @@ same-requires-4 c κs = search needs
 returns-4 : tie.Need-returns-4
 unfolding keywordFor knownFor keywordOf
 returns-4 c =
+    let at-if3 = c .before .before .before in
+    let at-same3 = at-if3 .before in
+    let at-if2 = at-same3 .before .before in
+    let at-same2 = at-if2 .before in
+    let at-if1 = at-same2 .before .before in
+    let at-same = at-if1 .before in
     sym (rw (
-      told (c .before .before .before .before .before .before .before .before .before .before .same .ensures)
-          (c .before .before .before .before .before .before .before .before .before .if1 .left),
-      told (c .before .before .before .before .before .before .before .same2 .ensures) (c .before .before .before .before .before .before .if2 .left),
-      told (c .before .before .before .before .same3 .ensures) (c .before .before .before .if3 .left),
+      told (at-same .same .ensures)
+          (at-if1 .if1 .left),
+      told (at-same2 .same2 .ensures) (at-if2 .if2 .left),
+      told (at-same3 .same3 .ensures) (at-if3 .if3 .left),
       told (c .before .same4 .ensures) (c .if4 .taken),
     ))
 
 returns-5 : tie.Need-returns-5
 unfolding keywordFor knownFor keywordOf
 returns-5 c =
+    let at-if3 = c .before .before .before in
+    let at-same3 = at-if3 .before in
+    let at-if2 = at-same3 .before .before in
+    let at-same2 = at-if2 .before in
+    let at-if1 = at-same2 .before .before in
+    let at-same = at-if1 .before in
     sym (rw (
-      told (c .before .before .before .before .before .before .before .before .before .before .same .ensures)
-          (c .before .before .before .before .before .before .before .before .before .if1 .left),
-      told (c .before .before .before .before .before .before .before .same2 .ensures) (c .before .before .before .before .before .before .if2 .left),
-      told (c .before .before .before .before .same3 .ensures) (c .before .before .before .if3 .left),
+      told (at-same .same .ensures)
+          (at-if1 .if1 .left),
+      told (at-same2 .same2 .ensures) (at-if2 .if2 .left),
+      told (at-same3 .same3 .ensures) (at-if3 .if3 .left),
       told (c .before .same4 .ensures) (c .if4 .left),
     ))
 

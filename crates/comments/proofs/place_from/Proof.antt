@@ -25,7 +25,8 @@ is-in-requires : tie.Need-is-in-requires Inv-loop μ-loop
 is-in-requires c κs = search needs
 
 returns : tie.Need-returns Inv-loop μ-loop
-returns c = sym
+returns c =
+    sym
     (c .before .before .before .before .loop .inv
     ∙ find-hit _ _ _ (c .before .before .before .loop-test .taken) (told (c .before .is-in .ensures) (c .if1 .taken)))
 

@@ -26,7 +26,8 @@ content c = c .before .part .result .now
 whole : (c : Entered) → let a = c .before .before .before .args in let l = content c in
     commentFrom (length l) (a .options) (a .comment .start) l 0 ≡ withComment (a .text .now) (a .options) (a .comment)
 unfolding withComment
-whole c = let a = c .before .before .before .args in
+whole c =
+    let a = c .before .before .before .args in
     ap (λ (l : List ℕ). commentFrom (length l) (a .options) (a .comment .start) l 0) (c .before .part .ensures)
 
 fits : (c : Entered) → c .before .before .before .args .comment .start + length (content c) ≤ 65535
@@ -41,8 +42,11 @@ place c = lies _ _ _ _ _ (c .before .before .before .before .loop .inv .1) _ _ _
 rest : (c : tie.After-apply Inv-loop μ-loop) → let s = c .before .before .before .before .before .before .before in let a = s .before .before .before .args in
     Comes (content s) (a .comment .start) (a .options) (c .apply .result) (c .before .before .before .find-jsx-pragma .last .1 .0 + 1)
 rest c =
+    let at-if1 = c .before .before in
+    let at-find-jsx-pragma = at-if1 .before in
+    let at-loop = at-find-jsx-pragma .before .before .before in
     rw (c .apply .ensures, c .before .type-of .ensures)
-    (onward _ _ _ _ _ (c .before .before .before .before .before .before .loop .inv .1) _ _ _ (c .before .before .before .find-jsx-pragma .ensures) (c .before .before .if1 .left))
+    (onward _ _ _ _ _ (at-loop .loop .inv .1) _ _ _ (at-find-jsx-pragma .find-jsx-pragma .ensures) (at-if1 .if1 .left))
 
 part-requires : tie.Need-part-requires Inv-loop μ-loop
 part-requires c κs = search needs
@@ -58,20 +62,28 @@ find-jsx-pragma-requires c κs = search needs
 
 returns : tie.Need-returns Inv-loop μ-loop
 returns c =
+    let at-loop = c .before .before .before .before in
+    let at-whole = at-loop .before in
     let f = c .before .find-jsx-pragma in
-    sym (ended _ _ _ _ _ (c .before .before .before .before .loop .inv .1) _ _ _ (f .ensures) (c .if1 .taken)) ∙ whole (c .before .before .before .before .before)
+    sym (ended _ _ _ _ _ (at-loop .loop .inv .1) _ _ _ (f .ensures) (c .if1 .taken)) ∙ whole at-whole
 
 add-t15 : tie.Need-add-t15 Inv-loop μ-loop
-add-t15 c = omega (arith, place c, fits (c .before .before .before .before .before))
+add-t15 c =
+    let at-fits = c .before .before .before .before .before in
+    omega (arith, place c, fits at-fits)
 
 sub-t17 : tie.Need-sub-t17 Inv-loop μ-loop
 sub-t17 c = omega (arith, place c)
 
 cast-t18 : tie.Need-cast-t18 Inv-loop μ-loop
-cast-t18 c = omega (arith, place c, fits (c .before .before .before .before .before))
+cast-t18 c =
+    let at-fits = c .before .before .before .before .before in
+    omega (arith, place c, fits at-fits)
 
 cast-t20 : tie.Need-cast-t20 Inv-loop μ-loop
-cast-t20 c = omega (arith, place c, fits (c .before .before .before .before .before))
+cast-t20 c =
+    let at-fits = c .before .before .before .before .before in
+    omega (arith, place c, fits at-fits)
 
 type-of-requires : tie.Need-type-of-requires Inv-loop μ-loop
 type-of-requires c κs = search needs
@@ -80,7 +92,9 @@ apply-requires : tie.Need-apply-requires Inv-loop μ-loop
 apply-requires c κs = search needs
 
 returns-2 : tie.Need-returns-2 Inv-loop μ-loop
-returns-2 c = sym (past _ _ _ _ _ (rest (c .before)) (omega arith)) ∙ whole (c .before .before .before .before .before .before .before .before)
+returns-2 c =
+    let at-whole = c .before .before .before .before .before .before .before .before in
+    sym (past _ _ _ _ _ (rest (c .before)) (omega arith)) ∙ whole at-whole
 
 add-at : tie.Need-add-at Inv-loop μ-loop
 add-at c = search needs

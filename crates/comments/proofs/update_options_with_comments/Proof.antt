@@ -42,24 +42,31 @@ loop-less : tie.Need-loop-less Inv-loop μ-loop
 loop-less c = search needs
 
 loop-again : tie.Need-loop-again Inv-loop μ-loop
-loop-again c = (
-  omega arith,
-  c .before .before .before .before .before .loop .inv .1
-      ∙ comment-here _ _ (c .before .before .before .before .before .before .before .before .args .tape .now) _
-      (c .before .before .before .before .loop-test .taken) (c .before .before .if1 .taken)
-      ∙ sym (rw (c .update-options-with-comment .ensures, c .before .read-span .ensures)),
-)
+loop-again c =
+    let at-if1 = c .before .before in
+    let at-loop-test = at-if1 .before .before in
+    let at-loop = at-loop-test .before in
+    let at-entry = at-loop .before .before .before in (
+      omega arith,
+      at-loop .loop .inv .1
+          ∙ comment-here _ _ (at-entry .args .tape .now) _
+          (at-loop-test .loop-test .taken) (at-if1 .if1 .taken)
+          ∙ sym (rw (c .update-options-with-comment .ensures, c .before .read-span .ensures)),
+    )
 
 loop-less-2 : tie.Need-loop-less-2 Inv-loop μ-loop
 loop-less-2 c = search needs
 
 loop-again-2 : tie.Need-loop-again-2 Inv-loop μ-loop
-loop-again-2 c = (
-  omega arith,
-  c .before .before .before .loop .inv .1
-      ∙ comment-elsewhere _ _ (c .before .before .before .before .before .before .args .tape .now) _ (c .before .before .loop-test .taken)
-      (c .if1 .left),
-)
+loop-again-2 c =
+    let at-loop-test = c .before .before in
+    let at-loop = at-loop-test .before in
+    let at-entry = at-loop .before .before .before in (
+      omega arith,
+      at-loop .loop .inv .1
+          ∙ comment-elsewhere _ _ (at-entry .args .tape .now) _ (at-loop-test .loop-test .taken)
+          (c .if1 .left),
+    )
 
 returns : tie.Need-returns Inv-loop μ-loop
 returns c = sym (c .before .loop .inv .1 ∙ comments-over _ _ (c .before .before .before .before .args .tape .now) _ (c .loop-test .left))

@@ -32,10 +32,13 @@ part-result-start c = search needs
 
 part-result-end : tie.Need-part-result-end
 part-result-end c =
+    let at-n = c .before in
+    let at-place-from = at-n .before .before in
+    let at-entry = at-place-from .before .before in
     omega (
       arith,
-      place-range (isIn White) (c .before .before .before .before .before .args .rest .now) 0 (c .before .n .given .0 .0)
-          (told (c .before .before .before .place-from .ensures) (c .before .n .given .1)),
+      place-range (isIn White) (at-entry .args .rest .now) 0 (at-n .n .given .0 .0)
+          (told (at-place-from .place-from .ensures) (at-n .n .given .1)),
     )
 
 returns-2 : tie.Need-returns-2

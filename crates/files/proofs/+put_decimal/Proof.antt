@@ -28,7 +28,7 @@ put-decimal-returns : (t : ℕ) → put-decimal-lts.Need-returns (
   put-decimal-below t,
   put-decimal.Post,
 ) (put-decimal-at t) put-decimal.Post
-put-decimal-returns t c = none-left _ _ ((c .if1) .taken) (omega arith)
+put-decimal-returns t c = none-left _ _ (c .if1 .taken) (omega arith)
 
 put-decimal-cast-put : (t : ℕ) → put-decimal-lts.Need-cast-put (
   put-reads.Asked,
@@ -68,7 +68,7 @@ put-decimal-returns-2 : (t : ℕ) → put-decimal-lts.Need-returns-2 (
   put-decimal-below t,
   put-decimal.Post,
 ) (put-decimal-at t) put-decimal.Post
-put-decimal-returns-2 t c = one-digit _ _ (omega arith) ((c .before .before .before .before .if2) .taken) ((c .before .before .put) .ensures)
+put-decimal-returns-2 t c = one-digit _ _ (omega arith) (c .before .before .before .before .if2 .taken) (c .before .before .put .ensures)
 
 put-decimal-sub-put-decimal : (t : ℕ) → put-decimal-lts.Need-sub-put-decimal (
   put-reads.Asked,
@@ -124,7 +124,11 @@ put-decimal-returns-3 : (t : ℕ) → put-decimal-lts.Need-returns-3 (
   put-decimal-below t,
   put-decimal.Post,
 ) (put-decimal-at t) put-decimal.Post
-put-decimal-returns-3 t c = more-digits _ _ (omega arith) (omega arith) (omega (arith, (c .before .before .before .before .before .before .before .before .before .before .before))) ((c .before .before .before .before .before .before .put-decimal) .ensures) ((c .before .before .put2) .ensures)
+put-decimal-returns-3 t c =
+    let at-put2 = c .before .before in
+    let at-put-decimal = at-put2 .before .before .before .before in
+    let at-entry = at-put-decimal .before .before .before .before .before in
+    more-digits _ _ (omega arith) (omega arith) (omega (arith, at-entry)) (at-put-decimal .put-decimal .ensures) (at-put2 .put2 .ensures)
 
 pub +put-decimal-spec : {M : Type 1} → statement M
 +put-decimal-spec = close μ-put-decimal λ t. put-decimal-lts.spec (

@@ -21,7 +21,13 @@ same-length : tie.Need-same-length
 same-length c = search needs
 
 returns : tie.Need-returns
-returns c = refused-wrote (omega (arith, (c .before .before .before .before .before .before .before .before .before .before .before .before .before .before .before .before .before))) ((c .before .before .before .before .before .before .before .before .before .before .before .before .before .before .put-two) .ensures) ((c .before .before .before .before .before .before .before .before .before .before .put-two2) .ensures) ((c .before .before .before .before .before .before .put-two3) .ensures) ((c .before .before .put-two4) .ensures)
+returns c =
+    let at-put-two4 = c .before .before in
+    let at-put-two3 = at-put-two4 .before .before .before .before in
+    let at-put-two2 = at-put-two3 .before .before .before .before in
+    let at-put-two = at-put-two2 .before .before .before .before in
+    let at-entry = at-put-two .before .before .before in
+    refused-wrote (omega (arith, at-entry)) (at-put-two .put-two .ensures) (at-put-two2 .put-two2 .ensures) (at-put-two3 .put-two3 .ensures) (at-put-two4 .put-two4 .ensures)
 
 pub put-refused-spec : {M : Type 1} → statement M
 put-refused-spec =

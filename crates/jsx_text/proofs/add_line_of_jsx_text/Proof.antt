@@ -16,7 +16,11 @@ same-length : tie.Need-same-length
 same-length c = search needs
 
 returns : tie.Need-returns
-returns c = (wrote-empty-line (c .before .before .before .before .before .before .before .before .args .before .survives) (c .before .before .before .before .before .before .before .before .args .line) _ (c .before .before .before .before .before .lead .ensures) _ _ _ _ (c .before .before .before .before .put .ensures) (c .if1 .taken), refl)
+returns c =
+    let at-put = c .before .before .before .before in
+    let at-lead = at-put .before in
+    let at-entry = at-lead .before .before .before in
+    (wrote-empty-line (at-entry .args .before .survives) (at-entry .args .line) _ (at-lead .lead .ensures) _ _ _ _ (at-put .put .ensures) (c .if1 .taken), refl)
 
 put-requires-2 : tie.Need-put-requires-2
 put-requires-2 c κs = search needs
@@ -28,7 +32,17 @@ same-length-2 : tie.Need-same-length-2
 same-length-2 c = search needs
 
 returns-2 : tie.Need-returns-2
-returns-2 c = (wrote-line (c .before .before .before .before .before .before .before .before .before .before .before .before .before .before .before .before .args .before .survives) (c .before .before .before .before .before .before .before .before .before .before .before .before .before .before .before .before .args .line) _ (c .before .before .before .before .before .before .before .before .before .before .before .before .before .lead .ensures) _ _ _ _ (c .before .before .before .before .before .before .before .before .before .before .before .before .put .ensures) (c .before .before .before .before .before .before .before .before .if1 .left) (omega arith) _ _ _ _ (c .before .before .before .before .before .before .put2 .ensures) (c .before .before .put-span .ensures), refl)
+returns-2 c =
+    let at-put-span = c .before .before in
+    let at-put2 = at-put-span .before .before .before .before in
+    let at-if1 = at-put2 .before .before in
+    let at-put = at-if1 .before .before .before .before in
+    let at-lead = at-put .before in
+    let at-entry = at-lead .before .before .before in (
+      wrote-line (at-entry .args .before .survives) (at-entry .args .line) _ (at-lead .lead .ensures) _ _ _ _ (at-put .put .ensures)
+          (at-if1 .if1 .left) (omega arith) _ _ _ _ (at-put2 .put2 .ensures) (at-put-span .put-span .ensures),
+      refl,
+    )
 
 pub add-line-of-jsx-text-spec : {M : Type 1} → statement M
 add-line-of-jsx-text-spec =

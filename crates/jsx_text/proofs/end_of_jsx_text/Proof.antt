@@ -14,7 +14,8 @@ same-length c = search needs
 
 returns : tie.Need-returns
 unfolding endBytes
-returns c = (rw (c .before .before .before .before .if1 .taken) (c .before .before .put .ensures), sym (c .before .before .before .before .if1 .taken))
+returns c =
+    (rw (c .before .before .before .before .if1 .taken) (c .before .before .put .ensures), sym (c .before .before .before .before .if1 .taken))
 
 returns-2 : tie.Need-returns-2
 unfolding endBytes

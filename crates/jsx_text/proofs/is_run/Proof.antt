@@ -29,16 +29,21 @@ loop-less : tie.Need-loop-less Inv-loop μ-loop
 loop-less c = omega arith
 
 loop-again : tie.Need-loop-again Inv-loop μ-loop
-loop-again c = (
-  omega arith,
-  λ h. let t = run-tests (c .before .before .loop .all) (c .before .before .before .args .lo) (getD (c .before .before .before .args .s .now) (c .before .before .loop .i) 0) (c .before .before .before .args .hi) h in
-      run-more _ _ _ _ _ (c .before .before .loop .inv .1 (t .0)) (c .before .loop-test .taken) (t .1) (t .2),
-)
+loop-again c =
+    let at-loop = c .before .before in
+    let at-entry = at-loop .before in (
+      omega arith,
+      λ h. let t = run-tests (at-loop .loop .all) (at-entry .args .lo) (getD (at-entry .args .s .now) (at-loop .loop .i) 0) (at-entry .args .hi) h in
+          run-more _ _ _ _ _ (at-loop .loop .inv .1 (t .0)) (c .before .loop-test .taken) (t .1) (t .2),
+    )
 
 returns : tie.Need-returns Inv-loop μ-loop
-returns c = λ h.
-    let r = c .before .loop .inv .1 h in
-    subst (λ (n : ℕ). Run (c .before .before .args .s .now) (c .before .before .args .lo) (c .before .before .args .hi) 0 n) (omega (arith, c .before .loop .inv .0, c .loop-test .left)) r
+returns c =
+    let at-loop = c .before in
+    let at-entry = at-loop .before in
+    λ h.
+    let r = at-loop .loop .inv .1 h in
+    subst (λ (n : ℕ). Run (at-entry .args .s .now) (at-entry .args .lo) (at-entry .args .hi) 0 n) (omega (arith, at-loop .loop .inv .0, c .loop-test .left)) r
 
 pub is-run-spec : {M : Type 1} → statement M
 is-run-spec =

@@ -53,7 +53,10 @@ mark-of-requires-2 : tie.Need-mark-of-requires-2
 mark-of-requires-2 c κs = search needs
 
 returns-4 : tie.Need-returns-4
-returns-4 c = marks-ascii _ _ _ ((c .before .before .before .before .before .before .pre)) (c .before .before .before .if1 .left) (c .mark-of2 .ensures)
+returns-4 c =
+    let at-if1 = c .before .before .before in
+    let at-entry = at-if1 .before .before .before in
+    marks-ascii _ _ _ ((at-entry .pre)) (at-if1 .if1 .left) (c .mark-of2 .ensures)
 
 pub mark-at-spec : {M : Type 1} → statement M
 mark-at-spec =

@@ -17,11 +17,17 @@ is-white-space-requires c κs = search needs
 
 returns-2 : tie.Need-returns-2
 unfolding marked
-returns-2 c = rw (told (c .before .before .before .is-line-terminator .ensures) (c .before .before .if1 .left), told (c .before .is-white-space .ensures) (c .if2 .taken))
+returns-2 c =
+    let at-if1 = c .before .before in
+    let at-is-line-terminator = at-if1 .before in
+    rw (told (at-is-line-terminator .is-line-terminator .ensures) (at-if1 .if1 .left), told (c .before .is-white-space .ensures) (c .if2 .taken))
 
 returns-3 : tie.Need-returns-3
 unfolding marked
-returns-3 c = rw (told (c .before .before .before .is-line-terminator .ensures) (c .before .before .if1 .left), told (c .before .is-white-space .ensures) (c .if2 .left))
+returns-3 c =
+    let at-if1 = c .before .before in
+    let at-is-line-terminator = at-if1 .before in
+    rw (told (at-is-line-terminator .is-line-terminator .ensures) (at-if1 .if1 .left), told (c .before .is-white-space .ensures) (c .if2 .left))
 
 pub mark-of-spec : {M : Type 1} → statement M
 mark-of-spec =

@@ -34,10 +34,25 @@ loop-less : tie.Need-loop-less Inv-loop μ-loop
 loop-less c = omega arith
 
 loop-again : tie.Need-loop-again Inv-loop μ-loop
-loop-again c = (not-first (c .before .before .before .before .before .args .s .now) (c .before .before .before .before .before .args .i) (c .before .before .loop .to) (c .before .before .before .before .before .pre .1 .0) (c .before .before .loop .inv .0) (c .if1 .taken), run-less _ _ _ _ _ (c .before .before .loop .inv .1) (c .before .before .loop .inv .0))
+loop-again c =
+    let at-loop = c .before .before in
+    let at-entry = at-loop .before .before .before in (
+      not-first (at-entry .args .s .now) (at-entry .args .i) (at-loop .loop .to) (at-entry .pre .1 .0) (at-loop .loop .inv .0) (c .if1 .taken),
+      run-less _ _ _ _ _ (at-loop .loop .inv .1) (at-loop .loop .inv .0),
+    )
 
 returns : tie.Need-returns Inv-loop μ-loop
-returns c = let r = c .before .before .loop .inv in record { some = r .0; run = r .1; first = c .before .before .before .before .before .pre .1 .0; last = omega (arith, r .1 .each (c .before .before .loop .to - 1) (omega arith) (omega arith), c .if1 .left) }
+returns c =
+    let at-loop = c .before .before in
+    let at-entry = at-loop .before .before .before in
+    let r = at-loop .loop .inv in
+    record {
+      some = r .0;
+      run = r .1;
+      first = at-entry .pre .1 .0;
+      last = omega
+          (arith, r .1 .each (at-loop .loop .to - 1) (omega arith) (omega arith), c .if1 .left);
+    }
 
 pub plain-end-spec : {M : Type 1} → statement M
 plain-end-spec =

@@ -46,7 +46,9 @@ loop-less : tie.Need-loop-less Inv-loop μ-loop
 loop-less c = omega (arith, c .before .before .before .before .loop .inv .inside)
 
 loop-again : tie.Need-loop-again Inv-loop μ-loop
-loop-again c = run-block _ _ _ _ _ 16 (c .before .before .before .before .loop .inv) (omega (arith, c .before .before .before .before .loop .inv .inside)) (c .before .is-run .ensures (not-false _ (c .if1 .left)))
+loop-again c =
+    let at-loop = c .before .before .before .before in
+    run-block _ _ _ _ _ 16 (at-loop .loop .inv) (omega (arith, at-loop .loop .inv .inside)) (c .before .is-run .ensures (not-false _ (c .if1 .left)))
 
 returns-2 : tie.Need-returns-2 Inv-loop μ-loop
 returns-2 c = c .before .loop .inv

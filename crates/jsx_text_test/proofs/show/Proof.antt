@@ -33,7 +33,11 @@ slice-aggregate-fixup-whitespace-and-decode-entities c = search needs
 
 fixup-whitespace-and-decode-entities-requires :
     tie.Need-fixup-whitespace-and-decode-entities-requires
-fixup-whitespace-and-decode-entities-requires c κs = (c .before .before .before .before .before .before .pre, (ap firstIll (sym (c .before .before .before .before .part .ensures)) ∙ sym (c .before .before .before .first-ill-formed .ensures) ∙ c .before .enum-told .given .1, omega arith))
+fixup-whitespace-and-decode-entities-requires c κs =
+    let at-first-ill-formed = c .before .before .before in
+    let at-part = at-first-ill-formed .before in
+    let at-entry = at-part .before .before in
+    (at-entry .pre, (ap firstIll (sym (at-part .part .ensures)) ∙ sym (at-first-ill-formed .first-ill-formed .ensures) ∙ c .before .enum-told .given .1, omega arith))
 
 slice-aggregate-fixup-whitespace-and-decode-entities-2 :
     tie.Need-slice-aggregate-fixup-whitespace-and-decode-entities-2
@@ -41,7 +45,12 @@ slice-aggregate-fixup-whitespace-and-decode-entities-2 c = search needs
 
 fixup-whitespace-and-decode-entities-requires-2 :
     tie.Need-fixup-whitespace-and-decode-entities-requires-2
-fixup-whitespace-and-decode-entities-requires-2 c κs = (c .before .before .before .before .before .before .before .before .before .pre, (ap firstIll (sym (c .before .before .before .before .before .before .before .part .ensures)) ∙ sym (c .before .before .before .before .before .before .first-ill-formed .ensures) ∙ c .before .before .before .before .enum-told .given .1, omega arith))
+fixup-whitespace-and-decode-entities-requires-2 c κs =
+    let at-enum-told = c .before .before .before .before in
+    let at-first-ill-formed = at-enum-told .before .before in
+    let at-part = at-first-ill-formed .before in
+    let at-entry = at-part .before .before in
+    (at-entry .pre, (ap firstIll (sym (at-part .part .ensures)) ∙ sym (at-first-ill-formed .first-ill-formed .ensures) ∙ at-enum-told .enum-told .given .1, omega arith))
 
 slice-aggregate-write-all-2 : tie.Need-slice-aggregate-write-all-2
 slice-aggregate-write-all-2 c = search needs
@@ -58,17 +67,20 @@ write-all-requires-3 c κs = search needs
 print-decimal-requires : tie.Need-print-decimal-requires
 print-decimal-requires c κs = search needs
 
-sub-write-bytes : tie.Need-sub-write-bytes
-sub-write-bytes c = search needs
+sub-print-bytes : tie.Need-sub-print-bytes
+sub-print-bytes c = search needs
 
-part-write-bytes-start : tie.Need-part-write-bytes-start
-part-write-bytes-start c = search needs
+part-print-bytes-start : tie.Need-part-print-bytes-start
+part-print-bytes-start c = search needs
 
-part-write-bytes-end : tie.Need-part-write-bytes-end
-part-write-bytes-end c = search needs
+part-print-bytes-end : tie.Need-part-print-bytes-end
+part-print-bytes-end c = search needs
 
-write-bytes-requires : tie.Need-write-bytes-requires
-write-bytes-requires c κs = search needs
+slice-aggregate-print-bytes : tie.Need-slice-aggregate-print-bytes
+slice-aggregate-print-bytes c = search needs
+
+print-bytes-requires : tie.Need-print-bytes-requires
+print-bytes-requires c κs = search needs
 
 slice-aggregate-write-all-4 : tie.Need-slice-aggregate-write-all-4
 slice-aggregate-write-all-4 c = search needs
@@ -99,10 +111,11 @@ show-spec =
     slice-aggregate-write-all-3
     write-all-requires-3
     print-decimal-requires
-    sub-write-bytes
-    part-write-bytes-start
-    part-write-bytes-end
-    write-bytes-requires
+    sub-print-bytes
+    part-print-bytes-start
+    part-print-bytes-end
+    slice-aggregate-print-bytes
+    print-bytes-requires
     slice-aggregate-write-all-4
     write-all-requires-4
     returns-2)

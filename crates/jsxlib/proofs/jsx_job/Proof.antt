@@ -40,10 +40,14 @@ tell-records-requires c κs = search needs
 
 returns : tie.Need-returns
 returns c =
-    let a = (c .before .before .before .before .before .before .before .before .before .before .before .before .args) in
+    let at-enum-told = c .before .before in
+    let at-open-job = at-enum-told .before .before .before in
+    let at-entry = at-open-job .before .before .before .before .before .before .before in
+    let a = at-entry .args in
     job-is (now (a .text)) (now (a .job)) (now (a .roots)) (now (a .calls)) (now (a .notices)) (now (a .records))
-    (opening-refused (now (a .text)) (now (a .job)) (now (a .roots)) (now (a .calls)) (now (a .notices)) (now (a .records)) _ ((c .before .before .before .before .before .open-job) .ensures) ((c .before .before .enum-told) .given .1)
-    ((c .number-by) .ensures) ((c .before .figure-by) .ensures))
+    (opening-refused (now (a .text)) (now (a .job)) (now (a .roots)) (now (a .calls)) (now (a .notices)) (now (a .records)) _
+    (at-open-job .open-job .ensures) (at-enum-told .enum-told .given .1)
+    (c .number-by .ensures) (c .before .figure-by .ensures))
 
 same-length : tie.Need-same-length
 same-length c = search needs
@@ -53,11 +57,17 @@ same-length-2 c = search needs
 
 returns-2 : tie.Need-returns-2
 returns-2 c =
-    let a = (c .before .before .before .before .before .before .before .before .before .before .before .before .before .before .before .before .before .before .before .before .before .before .args) in
-    let l = (c .before .before .before .before .before .before .before .before .before .lower-list) .ensures in
+    let at-enum-told3 = c .before .before in
+    let at-lower-list = at-enum-told3 .before .before .before .before .before .before .before in
+    let at-enum-told2 = at-lower-list .before .before .before in
+    let at-open-job = at-enum-told2 .before .before .before in
+    let at-entry = at-open-job .before .before .before .before .before .before .before in
+    let a = at-entry .args in
+    let l = at-lower-list .lower-list .ensures in
     job-is (now (a .text)) (now (a .job)) (now (a .roots)) (now (a .calls)) (now (a .notices)) (now (a .records))
-    (root-refused (now (a .text)) (now (a .job)) (now (a .roots)) (now (a .calls)) (now (a .notices)) (now (a .records)) _ ((c .before .before .before .before .before .before .before .before .before .before .before .before .before .before .before .open-job) .ensures) ((c .before .before .before .before .before .before .before .before .before .before .before .before .enum-told2) .given .1)
-    (l .0) (l .1 .0) (l .1 .1 .0) ((c .before .before .enum-told3) .given .1) ((c .number-by2) .ensures) ((c .before .figure-by2) .ensures))
+    (root-refused (now (a .text)) (now (a .job)) (now (a .roots)) (now (a .calls)) (now (a .notices)) (now (a .records)) _
+    (at-open-job .open-job .ensures) (at-enum-told2 .enum-told2 .given .1)
+    (l .0) (l .1 .0) (l .1 .1 .0) (at-enum-told3 .enum-told3 .given .1) (c .number-by2 .ensures) (c .before .figure-by2 .ensures))
 
 same-length-3 : tie.Need-same-length-3
 same-length-3 c = search needs
@@ -70,12 +80,19 @@ same-length-5 c = search needs
 
 returns-3 : tie.Need-returns-3
 returns-3 c =
-    let a = (c .before .before .before .before .before .before .before .before .before .before .before .before .before .before .before .before .before .before .before .before .before .before .before .before .before .args) in
-    let l = (c .before .before .before .before .before .before .before .before .before .before .before .before .lower-list) .ensures in
-    let t = (c .before .before .tell-records) .ensures in
+    let at-tell-records = c .before .before in
+    let at-enum-told4 = at-tell-records .before .before .before in
+    let at-lower-list = at-enum-told4 .before .before .before .before .before .before .before in
+    let at-enum-told2 = at-lower-list .before .before .before in
+    let at-open-job = at-enum-told2 .before .before .before in
+    let at-entry = at-open-job .before .before .before .before .before .before .before in
+    let a = at-entry .args in
+    let l = at-lower-list .lower-list .ensures in
+    let t = at-tell-records .tell-records .ensures in
     job-is (now (a .text)) (now (a .job)) (now (a .roots)) (now (a .calls)) (now (a .notices)) (now (a .records))
-    (job-done (now (a .text)) (now (a .job)) (now (a .roots)) (now (a .calls)) (now (a .notices)) (now (a .records)) _ ((c .before .before .before .before .before .before .before .before .before .before .before .before .before .before .before .before .before .before .open-job) .ensures) ((c .before .before .before .before .before .before .before .before .before .before .before .before .before .before .before .enum-told2) .given .1)
-    (l .0) (l .1 .0) (l .1 .1 .0) ((c .before .before .before .before .before .enum-told4) .given .1) (t .0) (t .1 .0) (t .1 .1))
+    (job-done (now (a .text)) (now (a .job)) (now (a .roots)) (now (a .calls)) (now (a .notices)) (now (a .records)) _
+    (at-open-job .open-job .ensures) (at-enum-told2 .enum-told2 .given .1)
+    (l .0) (l .1 .0) (l .1 .1 .0) (at-enum-told4 .enum-told4 .given .1) (t .0) (t .1 .0) (t .1 .1))
 
 pub jsx-job-spec : {M : Type 1} → statement M
 jsx-job-spec =

@@ -21,11 +21,16 @@ same-length c = search needs
 
 returns : tie.Need-returns
 returns c =
-    let o = (c .before .before .before .before .before .before .before .open-job) .ensures in
-    let i = (c .before .before .before .before .before .answer-in) .ensures in
-    let s = (c .before .before .settle) .ensures in
-    let a = (c .before .before .before .before .before .before .before .before .before .before .before .args) in
-    (rw (s .0, i, o), (rw ((c .before .before .before .before .figure-by) .ensures, i, o), (rw (s .1, i, o), opening-hosted (now (a .text)) (now (a .job)) (now (a .state)) o i (s .1))))
+    let at-settle = c .before .before in
+    let at-figure-by = at-settle .before .before in
+    let at-answer-in = at-figure-by .before in
+    let at-open-job = at-answer-in .before .before in
+    let at-entry = at-open-job .before .before .before .before in
+    let o = at-open-job .open-job .ensures in
+    let i = at-answer-in .answer-in .ensures in
+    let s = at-settle .settle .ensures in
+    let a = at-entry .args in
+    (rw (s .0, i, o), (rw (at-figure-by .figure-by .ensures, i, o), (rw (s .1, i, o), opening-hosted (now (a .text)) (now (a .job)) (now (a .state)) o i (s .1))))
 
 pub jsx-open-spec : {M : Type 1} → statement M
 jsx-open-spec =

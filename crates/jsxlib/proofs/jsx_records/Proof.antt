@@ -13,8 +13,10 @@ same-length c = search needs
 
 returns : tie.Need-returns
 returns c =
-    let t = (c .before .before .tell-records) .ensures in
-    let u = (c .before .before .before .before .before .state-from) .ensures in
+    let at-tell-records = c .before .before in
+    let at-state-from = at-tell-records .before .before .before in
+    let t = at-tell-records .tell-records .ensures in
+    let u = at-state-from .state-from .ensures in
     (rw (t .0, u), (rw (t .1 .0, u), rw (t .1 .1, u)))
 
 pub jsx-records-spec : {M : Type 1} → statement M

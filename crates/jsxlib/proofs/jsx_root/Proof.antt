@@ -25,10 +25,14 @@ same-length-3 c = search needs
 
 returns : tie.Need-returns
 returns c =
-    let u = (c .before .before .before .before .before .before .before .before .before .before .before .before .before .state-from) .ensures in
-    let l = (c .before .before .before .before .before .before .before .before .before .before .lower-root) .ensures in
-    let s = (c .before .before .settle) .ensures in
-    (rw (s .0, l .0, u), (rw ((c .before .before .before .before .figure-by) .ensures, l .0, u), (rw (s .1, l .0, u), (rw (l .1 .0, u), rw (l .1 .1, u)))))
+    let at-settle = c .before .before in
+    let at-figure-by = at-settle .before .before in
+    let at-lower-root = at-figure-by .before .before .before .before .before .before in
+    let at-state-from = at-lower-root .before .before .before in
+    let u = at-state-from .state-from .ensures in
+    let l = at-lower-root .lower-root .ensures in
+    let s = at-settle .settle .ensures in
+    (rw (s .0, l .0, u), (rw (at-figure-by .figure-by .ensures, l .0, u), (rw (s .1, l .0, u), (rw (l .1 .0, u), rw (l .1 .1, u)))))
 
 pub jsx-root-spec : {M : Type 1} → statement M
 jsx-root-spec =

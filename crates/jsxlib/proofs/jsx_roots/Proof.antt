@@ -30,16 +30,20 @@ same-length-3 c = search needs
 
 returns : tie.Need-returns
 returns c =
-    let u = (c .before .before .before .before .before .before .before .before .before .before .before .before .before .before .state-from) .ensures in
-    let l = (c .before .before .before .before .before .before .before .before .before .before .before .lower-list) .ensures in
+    let at-keep = c .before .before .before in
+    let at-figure-by = at-keep .before .before in
+    let at-lower-list = at-figure-by .before .before .before .before .before .before in
+    let at-state-from = at-lower-list .before .before .before in
+    let u = at-state-from .state-from .ensures in
+    let l = at-lower-list .lower-list .ensures in
     let w = l .1 .1 .0 in (
-      rw ((c .number-by) .ensures, l .0, u),
+      rw (c .number-by .ensures, l .0, u),
       (
-        rw ((c .before .before .before .before .before .figure-by) .ensures, l .0, u),
+        rw (at-figure-by .figure-by .ensures, l .0, u),
         (
           rw (l .1 .0, u),
           (
-            rw ((c .before .before .before .keep) .ensures, l .1 .0, ap (λ (v : World). v .state) w, u),
+            rw (at-keep .keep .ensures, l .1 .0, ap (λ (v : World). v .state) w, u),
             (rw (ap (λ (v : World). v .calls) w, u), rw (ap (λ (v : World). v .notices) w, u)),
           ),
         ),

@@ -16,9 +16,11 @@ same-length c = search needs
 
 returns : tie.Need-returns
 returns c =
-    let u = (c .before .before .before .before .before .before .state-from) .ensures in
-    let w = (c .before .before .before .before .write-settings) .ensures in
-    let t = (c .tell) .ensures in
+    let at-write-settings = c .before .before .before .before in
+    let at-state-from = at-write-settings .before .before in
+    let u = at-state-from .state-from .ensures in
+    let w = at-write-settings .write-settings .ensures in
+    let t = c .tell .ensures in
     (rw (t .0, w .0, u), (rw (t .1, w .0, u), rw (w .1, u)))
 
 pub jsx-settings-spec : {M : Type 1} → statement M

@@ -14,11 +14,11 @@ number-requires c κs = search needs
 
 returns : tie.Need-returns
 unfolding numberBy
-returns c = rw ((c .enum-told) .given .1)
+returns c = rw (c .enum-told .given .1)
 
 returns-2 : tie.Need-returns-2
 unfolding numberBy
-returns-2 c = rw ((c .before .before .answer) .given .1) ((c .number) .ensures)
+returns-2 c = rw (c .before .before .answer .given .1) (c .number .ensures)
 
 pub number-by-spec : {M : Type 1} → statement M
 number-by-spec = tie.close (tie.spec enum-told enum-known-answer number-requires returns returns-2)

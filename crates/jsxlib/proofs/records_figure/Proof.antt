@@ -14,11 +14,11 @@ figure-requires c κs = search needs
 
 returns : tie.Need-returns
 unfolding recordsFigure
-returns c = rw ((c .before .answer) .given .1)
+returns c = rw (c .before .answer .given .1)
 
 returns-2 : tie.Need-returns-2
 unfolding recordsFigure
-returns-2 c = rw ((c .before .before .answer2) .given .1) ((c .figure) .ensures)
+returns-2 c = rw (c .before .before .answer2 .given .1) (c .figure .ensures)
 
 pub records-figure-spec : {M : Type 1} → statement M
 records-figure-spec =

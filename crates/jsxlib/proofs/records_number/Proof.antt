@@ -14,11 +14,11 @@ number-requires c κs = search needs
 
 returns : tie.Need-returns
 unfolding recordsNumber
-returns c = rw ((c .enum-told) .given .1)
+returns c = rw (c .enum-told .given .1)
 
 returns-2 : tie.Need-returns-2
 unfolding recordsNumber
-returns-2 c = rw ((c .before .before .answer) .given .1) ((c .number) .ensures)
+returns-2 c = rw (c .before .before .answer .given .1) (c .number .ensures)
 
 pub records-number-spec : {M : Type 1} → statement M
 records-number-spec =

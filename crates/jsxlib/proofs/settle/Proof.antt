@@ -20,11 +20,14 @@ same-length c = search needs
 
 returns : tie.Need-returns
 unfolding numberBy stateAfter
-returns c = (rw ((c .before .before .before .before .enum-told) .given .1), rw ((c .before .before .before .before .enum-told) .given .1) ((c .before .before .pack) .ensures .1))
+returns c =
+    let at-pack = c .before .before in
+    let at-enum-told = at-pack .before .before in
+    (rw (at-enum-told .enum-told .given .1), rw (at-enum-told .enum-told .given .1) (at-pack .pack .ensures .1))
 
 returns-2 : tie.Need-returns-2
 unfolding numberBy stateAfter
-returns-2 c = (rw ((c .before .before .answer) .given .1) ((c .number) .ensures), rw ((c .before .before .answer) .given .1))
+returns-2 c = (rw (c .before .before .answer .given .1) (c .number .ensures), rw (c .before .before .answer .given .1))
 
 pub settle-spec : {M : Type 1} → statement M
 settle-spec =

@@ -8,7 +8,7 @@ unpack-requires : tie.Need-unpack-requires
 unpack-requires c κs = search needs
 
 returns : tie.Need-returns
-returns c = ap (λ (u : Unpacked). u .state) ((c .before .unpack) .ensures)
+returns c = ap (λ (u : Unpacked). u .state) (c .before .unpack .ensures)
 
 pub state-from-spec : {M : Type 1} → statement M
 state-from-spec = tie.close (tie.spec unpack-requires returns)

@@ -13,8 +13,8 @@ same-length c = search needs
 
 returns : tie.Need-returns
 returns c =
-    let w = (c .before .before .before .before .write-records) .ensures in
-    let t = (c .tell) .ensures in
+    let w = c .before .before .before .before .write-records .ensures in
+    let t = c .tell .ensures in
     (rw (t .0, w .0), (rw (t .1, w .0), w .1))
 
 pub tell-records-spec : {M : Type 1} → statement M

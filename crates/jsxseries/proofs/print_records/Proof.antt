@@ -33,9 +33,12 @@ part-print-line-start c = search needs
 
 part-print-line-end : tie.Need-part-print-line-end
 part-print-line-end c =
-    let wrote = c .before .before .before .before .before .before .write-records in
-    let a = c .before .before .before .before .before .before .before .before .before .before .before .args in
-    omega (arith, records-within (a .text .now) (a .state) _ _ _ (wrote .ensures .0) ((c .before .before .before .n) .given .1), wrote .kept .1 .1 .0)
+    let at-n = c .before .before .before in
+    let at-write-records = at-n .before .before .before in
+    let at-entry = at-write-records .before .before .before .before .before in
+    let wrote = at-write-records .write-records in
+    let a = at-entry .args in
+    omega (arith, records-within (a .text .now) (a .state) _ _ _ (wrote .ensures .0) (at-n .n .given .1), wrote .kept .1 .1 .0)
 
 print-line-requires : tie.Need-print-line-requires
 print-line-requires c κs = search needs

@@ -17,8 +17,10 @@ enum-told c = search needs
 
 run-roots-requires : tie.Need-run-roots-requires
 run-roots-requires c κs =
-    let a = c .before .before .before .before .before .before .before .before .args in
-    job-fresh (a .job .now) (a .text .now) _ (c .before .before .before .before .open-job .ensures) (c .before .enum-told .given .1)
+    let at-open-job = c .before .before .before .before in
+    let at-entry = at-open-job .before .before .before .before in
+    let a = at-entry .args in
+    job-fresh (a .job .now) (a .text .now) _ (at-open-job .open-job .ensures) (c .before .enum-told .given .1)
 
 same-length : tie.Need-same-length
 same-length c = search needs

@@ -22,7 +22,10 @@ part-print-line-start : tie.Need-part-print-line-start
 part-print-line-start c = search needs
 
 part-print-line-end : tie.Need-part-print-line-end
-part-print-line-end c = parts ((c .before .before .before .before .before .before .before .before .args) .ended) _ _ _ ((c .before .before .ended2) .given .1) ((c .before .before .before .before .before .before .before .before .pre) .0) ((c .before .before .before .before .before .before .before .before .pre) .1) .0
+part-print-line-end c =
+    let at-ended2 = c .before .before in
+    let at-entry = at-ended2 .before .before .before .before .before .before in
+    parts (at-entry .args .ended) _ _ _ (at-ended2 .ended2 .given .1) (at-entry .pre .0) (at-entry .pre .1) .0
 
 print-line-requires : tie.Need-print-line-requires
 print-line-requires c κs = search needs
@@ -43,7 +46,10 @@ part-print-line-start-2 : tie.Need-part-print-line-start-2
 part-print-line-start-2 c = search needs
 
 part-print-line-end-2 : tie.Need-part-print-line-end-2
-part-print-line-end-2 c = parts ((c .before .before .before .before .before .before .before .before .before .before .before .before .before .before .before .args) .ended) _ _ _ ((c .before .before .before .before .before .before .before .before .before .ended2) .given .1) ((c .before .before .before .before .before .before .before .before .before .before .before .before .before .before .before .pre) .0) ((c .before .before .before .before .before .before .before .before .before .before .before .before .before .before .before .pre) .1) .1
+part-print-line-end-2 c =
+    let at-ended2 = c .before .before .before .before .before .before .before .before .before in
+    let at-entry = at-ended2 .before .before .before .before .before .before in
+    parts (at-entry .args .ended) _ _ _ (at-ended2 .ended2 .given .1) (at-entry .pre .0) (at-entry .pre .1) .1
 
 print-line-requires-2 : tie.Need-print-line-requires-2
 print-line-requires-2 c κs = search needs
@@ -64,7 +70,10 @@ part-print-line-start-3 : tie.Need-part-print-line-start-3
 part-print-line-start-3 c = search needs
 
 part-print-line-end-3 : tie.Need-part-print-line-end-3
-part-print-line-end-3 c = parts ((c .before .before .before .before .before .before .before .before .before .before .before .before .before .before .before .before .before .before .before .before .before .before .args) .ended) _ _ _ ((c .before .before .before .before .before .before .before .before .before .before .before .before .before .before .before .before .ended2) .given .1) ((c .before .before .before .before .before .before .before .before .before .before .before .before .before .before .before .before .before .before .before .before .before .before .pre) .0) ((c .before .before .before .before .before .before .before .before .before .before .before .before .before .before .before .before .before .before .before .before .before .before .pre) .1) .2
+part-print-line-end-3 c =
+    let at-ended2 = c .before .before .before .before .before .before .before .before .before .before .before .before .before .before .before .before in
+    let at-entry = at-ended2 .before .before .before .before .before .before in
+    parts (at-entry .args .ended) _ _ _ (at-ended2 .ended2 .given .1) (at-entry .pre .0) (at-entry .pre .1) .2
 
 print-line-requires-3 : tie.Need-print-line-requires-3
 print-line-requires-3 c κs = search needs

@@ -7,17 +7,26 @@ use borrow.Author.Needs.{needs}
 use Rattle.lowering.proofs.lower_checked.Statement.{statement}
 use Rattle.lowering.proofs.lower_checked.Tie as tie
 
-call-room-requires : tie.Need-call-room-requires
-call-room-requires c κs = search needs
+call-size-bound-requires : tie.Need-call-size-bound-requires
+call-size-bound-requires c κs = search needs
 
 sub-if1 : tie.Need-sub-if1
-sub-if1 c = c .before .before .before .before .before .before .pre .unforged .calls-within
+sub-if1 c =
+    let at-entry = c .before .before .before .before .before .before in
+    at-entry .pre .unforged .calls-within
 
 sub-if2 : tie.Need-sub-if2
-sub-if2 c = c .before .before .before .before .before .before .before .before .pre .unforged .notices-within
+sub-if2 c =
+    let at-entry = c .before .before .before .before .before .before .before .before in
+    at-entry .pre .unforged .notices-within
 
 write-requires : tie.Need-write-requires
-write-requires c κs = (c .before .before .before .before .before .before .before .before .before .before .before .pre, surely-fits (c .before .before .before .before .before .before .before .before .before .before .before .pre) (c .before .before .before .before .before .before .call-room .ensures .1) (c .before .before .before .before .if1 .taken) (c .before .before .if2 .taken))
+write-requires c κs =
+    let at-if2 = c .before .before in
+    let at-if1 = at-if2 .before .before in
+    let at-call-size-bound = at-if1 .before .before in
+    let at-entry = at-call-size-bound .before .before .before .before .before in
+    (at-entry .pre, surely-fits (at-entry .pre) (at-call-size-bound .call-size-bound .ensures .1) (at-if1 .if1 .taken) (at-if2 .if2 .taken))
 
 same-length : tie.Need-same-length
 same-length c = search needs
@@ -29,7 +38,9 @@ returns : tie.Need-returns
 returns c = c .before .before .before .before .write .ensures
 
 fit-requires : tie.Need-fit-requires
-fit-requires c κs = c .before .before .before .before .before .before .before .pre
+fit-requires c κs =
+    let at-entry = c .before .before .before .before .before .before .before in
+    at-entry .pre
 
 enum-known-refusal : tie.Need-enum-known-refusal
 enum-known-refusal c = search needs
@@ -41,12 +52,19 @@ enum-told : tie.Need-enum-told
 enum-told c = search needs
 
 write-requires-2 : tie.Need-write-requires-2
-write-requires-2 c κs = (c .before .before .before .before .before .before .before .before .before .before .before .before .pre, told (c .before .before .before .before .fit .ensures) (c .before .before .enum-told .given .1))
+write-requires-2 c κs =
+    let at-enum-told = c .before .before in
+    let at-fit = at-enum-told .before .before in
+    let at-entry = at-fit .before .before .before .before .before .before .before .before in
+    (at-entry .pre, told (at-fit .fit .ensures) (at-enum-told .enum-told .given .1))
 
 returns-2 : tie.Need-returns-2
 returns-2 c =
-    let a = c .before .before .before .before .before .before .before .before .before .before .before .before .args in
-    not-fitting (now (a .text)) (a .state) (now (a .tape)) (now (a .calls)) (now (a .notices)) (told (c .before .before .before .before .fit .ensures) (c .before .before .refusal .given .1)) (c .refused .ensures)
+    let at-refusal = c .before .before in
+    let at-fit = at-refusal .before .before in
+    let at-entry = at-fit .before .before .before .before .before .before .before .before in
+    let a = at-entry .args in
+    not-fitting (now (a .text)) (a .state) (now (a .tape)) (now (a .calls)) (now (a .notices)) (told (at-fit .fit .ensures) (at-refusal .refusal .given .1)) (c .refused .ensures)
 
 same-length-3 : tie.Need-same-length-3
 same-length-3 c = search needs
@@ -61,7 +79,7 @@ pub lower-checked-spec : {M : Type 1} → statement M
 lower-checked-spec =
     tie.close
     (tie.spec
-    call-room-requires
+    call-size-bound-requires
     sub-if1
     sub-if2
     write-requires

@@ -19,12 +19,19 @@ enum-told c = search needs
 
 lower-checked-requires : tie.Need-lower-checked-requires
 lower-checked-requires c κs =
-    record { unforged = (c .before .before .before .before .before .before .before .before .before .pre); reads = told (c .before .before .before .before .check-root .ensures) (c .before .before .enum-told .given .1) }
+    let at-enum-told = c .before .before in
+    let at-check-root = at-enum-told .before .before in
+    let at-entry = at-check-root .before .before .before .before .before in
+    record { unforged = (at-entry .pre); reads = told (at-check-root .check-root .ensures) (at-enum-told .enum-told .given .1) }
 
 returns : tie.Need-returns
 returns c =
-    let a = c .before .before .before .before .before .before .before .before .before .args in
-    bad-tape (now (a .text)) (a .state) (now (a .tape)) (now (a .calls)) (now (a .notices)) _ _ (told (c .before .before .before .before .check-root .ensures) (c .before .before .fault .given .1)) (c .refused .ensures)
+    let at-fault = c .before .before in
+    let at-check-root = at-fault .before .before in
+    let at-entry = at-check-root .before .before .before .before .before in
+    let a = at-entry .args in
+    bad-tape (now (a .text)) (a .state) (now (a .tape)) (now (a .calls)) (now (a .notices)) _ _
+    (told (at-check-root .check-root .ensures) (at-fault .fault .given .1)) (c .refused .ensures)
 
 same-length : tie.Need-same-length
 same-length c = search needs

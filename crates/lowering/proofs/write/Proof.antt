@@ -16,10 +16,14 @@ short : (c : tie.Start) → (length (now (c .args .calls)) < 2 ^ 63) × (length 
 short c = (omega arith, omega arith)
 
 pen-over-requires : tie.Need-pen-over-requires
-pen-over-requires c κs = few-records ((c .before .before .before .before .before .before .before .pre) .0 .unforged)
+pen-over-requires c κs =
+    let at-entry = c .before .before .before .before .before .before .before in
+    few-records (at-entry .pre .0 .unforged)
 
 lower-requires : tie.Need-lower-requires
-lower-requires c κs = (c .before .before .before .before .before .before .before .before .pre .0 .unforged .spelled .short, c .before .before .before .before .before .before .before .before .pre .0 .unforged .spelled .formed)
+lower-requires c κs =
+    let at-entry = c .before .before .before .before .before .before .before .before in
+    (at-entry .pre .0 .unforged .spelled .short, at-entry .pre .0 .unforged .spelled .formed)
 
 cast-t16 : tie.Need-cast-t16
 cast-t16 c = search needs
@@ -32,8 +36,11 @@ same-length-2 c = search needs
 
 returns : tie.Need-returns
 returns c =
-    let s = (c .before .before .before .before .before .before .before .before .before .before .before .before .before .before .before .before) in
-    written (s .pre .0) (s .pre .1) (eight s) (short s .0) (short s .1) ((c .before .before .before .before .before .before .before .before .pen-over) .ensures) ((c .before .before .before .before .before .before .before .lower) .ensures)
+    let at-lower = c .before .before .before .before .before .before .before in
+    let at-pen-over = at-lower .before in
+    let at-entry = at-pen-over .before .before .before .before .before .before .before .before in
+    let s = at-entry in
+    written (s .pre .0) (s .pre .1) (eight s) (short s .0) (short s .1) (at-pen-over .pen-over .ensures) (at-lower .lower .ensures)
 
 pub write-spec : {M : Type 1} → statement M
 write-spec =

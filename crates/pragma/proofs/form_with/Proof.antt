@@ -19,7 +19,10 @@ abbrev μ-loop : tie.MeasureT-loop
 
 inside : (c : tie.After-first-length Inv-loop μ-loop)
     → c .before .before .before .loop .i + 1 + c .first-length .result ≤ length (c .before .before .before .before .before .args .behind .now)
-inside c = part-inside (c .before .before .before .before .before .args .behind .now) _ _ (c .before .before .loop-test .taken)
+inside c =
+    let at-loop-test = c .before .before in
+    let at-entry = at-loop-test .before .before .before in
+    part-inside (at-entry .args .behind .now) _ _ (at-loop-test .loop-test .taken)
     (c .first-length .ensures)
 
 loop-holds : tie.Need-loop-holds Inv-loop μ-loop
@@ -59,11 +62,17 @@ default-form-requires : tie.Need-default-form-requires Inv-loop μ-loop
 default-form-requires c κs = search needs
 
 returns : tie.Need-returns Inv-loop μ-loop
-returns c = c .default-form .ensures
-    ∙ sym (c .before .before .before .before .before .before .before .loop .inv .1
-    ∙ name-bad _ _ (c .before .before .before .before .before .before .before .before .before .args .behind .now) _ _
-    (c .before .before .before .before .before .before .loop-test .taken) (c .before .before .before .before .first-length .ensures)
-    (told (c .before .before .is-identifier-name .ensures) (not-true _ (c .before .if1 .taken))))
+returns c =
+    let at-is-identifier-name = c .before .before in
+    let at-first-length = at-is-identifier-name .before .before in
+    let at-loop-test = at-first-length .before .before in
+    let at-loop = at-loop-test .before in
+    let at-entry = at-loop .before .before in
+    c .default-form .ensures
+    ∙ sym (at-loop .loop .inv .1
+    ∙ name-bad _ _ (at-entry .args .behind .now) _ _
+    (at-loop-test .loop-test .taken) (at-first-length .first-length .ensures)
+    (told (at-is-identifier-name .is-identifier-name .ensures) (not-true _ (c .before .if1 .taken))))
 
 add-n : tie.Need-add-n Inv-loop μ-loop
 add-n c = omega (arith, inside (c .before .before .before))
@@ -72,13 +81,17 @@ loop-less : tie.Need-loop-less Inv-loop μ-loop
 loop-less c = omega (arith, inside (c .before .before .before))
 
 loop-again : tie.Need-loop-again Inv-loop μ-loop
-loop-again c = (
-  omega arith,
-  c .before .before .before .before .before .before .loop .inv .1
-      ∙ name-on _ _ (c .before .before .before .before .before .before .before .before .args .behind .now) _ _
-      (c .before .before .before .before .before .loop-test .taken) (c .before .before .before .first-length .ensures)
-      (told (c .before .is-identifier-name .ensures) (not-false _ (c .if1 .left))),
-)
+loop-again c =
+    let at-first-length = c .before .before .before in
+    let at-loop-test = at-first-length .before .before in
+    let at-loop = at-loop-test .before in
+    let at-entry = at-loop .before .before in (
+      omega arith,
+      at-loop .loop .inv .1
+          ∙ name-on _ _ (at-entry .args .behind .now) _ _
+          (at-loop-test .loop-test .taken) (at-first-length .first-length .ensures)
+          (told (c .before .is-identifier-name .ensures) (not-false _ (c .if1 .left))),
+    )
 
 returns-2 : tie.Need-returns-2 Inv-loop μ-loop
 returns-2 c = sym (c .before .loop .inv .1 ∙ form-end _ _ _ _ (c .loop-test .left))

@@ -18,7 +18,10 @@ abbrev μ-loop : tie.MeasureT-loop
 
 inside : (c : tie.After-first-length Inv-loop μ-loop)
     → c .before .before .before .loop .i + 1 + c .first-length .result ≤ length (c .before .before .before .before .before .before .args .words .now)
-inside c = part-inside (c .before .before .before .before .before .before .args .words .now) _ _ (c .before .before .loop-test .taken)
+inside c =
+    let at-loop-test = c .before .before in
+    let at-entry = at-loop-test .before .before .before .before in
+    part-inside (at-entry .args .words .now) _ _ (at-loop-test .loop-test .taken)
     (c .first-length .ensures)
 
 loop-holds : tie.Need-loop-holds Inv-loop μ-loop
@@ -55,10 +58,15 @@ same-requires : tie.Need-same-requires Inv-loop μ-loop
 same-requires c κs = search needs
 
 returns : tie.Need-returns Inv-loop μ-loop
-returns c = sym
-    (c .before .before .before .before .before .before .loop .inv
-    ∙ word-hit _ (c .before .before .before .before .before .before .before .before .before .args .words .now) _ _
-    (c .before .before .before .before .before .loop-test .taken) (c .before .before .before .first-length .ensures)
+returns c =
+    let at-first-length = c .before .before .before in
+    let at-loop-test = at-first-length .before .before in
+    let at-loop = at-loop-test .before in
+    let at-entry = at-loop .before .before .before in
+    sym
+    (at-loop .loop .inv
+    ∙ word-hit _ (at-entry .args .words .now) _ _
+    (at-loop-test .loop-test .taken) (at-first-length .first-length .ensures)
     (told (c .before .same .ensures) (c .if1 .taken)))
 
 loop-less : tie.Need-loop-less Inv-loop μ-loop
@@ -66,9 +74,13 @@ loop-less c = omega (arith, inside (c .before .before .before))
 
 loop-again : tie.Need-loop-again Inv-loop μ-loop
 loop-again c =
-    c .before .before .before .before .before .before .loop .inv
-    ∙ word-on _ (c .before .before .before .before .before .before .before .before .before .args .words .now) _ _
-    (c .before .before .before .before .before .loop-test .taken) (c .before .before .before .first-length .ensures)
+    let at-first-length = c .before .before .before in
+    let at-loop-test = at-first-length .before .before in
+    let at-loop = at-loop-test .before in
+    let at-entry = at-loop .before .before .before in
+    at-loop .loop .inv
+    ∙ word-on _ (at-entry .args .words .now) _ _
+    (at-loop-test .loop-test .taken) (at-first-length .first-length .ensures)
     (told (c .before .same .ensures) (c .if1 .left))
 
 returns-2 : tie.Need-returns-2 Inv-loop μ-loop

@@ -64,12 +64,16 @@ form-with-requires c κs = search needs
 returns-2 : tie.Need-returns-2
 unfolding metaForm
 returns-2 c =
+    let at-if2 = c .before .before in
+    let at-same = at-if2 .before in
+    let at-first-length = at-same .before .before .before in
+    let at-entry = at-first-length .before .before .before .before in
     c .form-with .ensures
     ∙ sym (rw (
-      next-part (c .before .before .before .before .before .before .before .before .before .before .args .behind .now) 0 _ (omega arith)
-          (c .before .before .before .before .before .before .first-length .ensures),
-      told (c .before .before .before .same .ensures) (c .before .before .if2 .taken),
-      tail-part (c .before .before .before .before .before .before .before .before .before .before .args .behind .now),
+      next-part (at-entry .args .behind .now) 0 _ (omega arith)
+          (at-first-length .first-length .ensures),
+      told (at-same .same .ensures) (at-if2 .if2 .taken),
+      tail-part (at-entry .args .behind .now),
     ))
 
 default-form-requires-2 : tie.Need-default-form-requires-2
@@ -78,11 +82,14 @@ default-form-requires-2 c κs = search needs
 returns-3 : tie.Need-returns-3
 unfolding metaForm
 returns-3 c =
+    let at-same = c .before .before in
+    let at-first-length = at-same .before .before .before in
+    let at-entry = at-first-length .before .before .before .before in
     c .default-form2 .ensures
     ∙ sym (rw (
-      next-part (c .before .before .before .before .before .before .before .before .before .args .behind .now) 0 _ (omega arith)
-          (c .before .before .before .before .before .first-length .ensures),
-      told (c .before .before .same .ensures) (c .before .if2 .left),
+      next-part (at-entry .args .behind .now) 0 _ (omega arith)
+          (at-first-length .first-length .ensures),
+      told (at-same .same .ensures) (c .before .if2 .left),
     ))
 
 pub meta-form-spec : {M : Type 1} → statement M

@@ -30,10 +30,14 @@ enum-told-2 c = search needs
 
 returns : tie.Need-returns
 unfolding overAsciiIn shifted
-returns c = sym
+returns c =
+    let at-find-over-ascii = c .before .before in
+    let at-part = at-find-over-ascii .before in
+    let at-pragma = at-part .before .before in
+    sym
     (rw (
-      c .before .before .before .before .before .pragma .given .1,
-      told (c .before .before .find-over-ascii .ensures ∙ ap (find overAscii) (c .before .before .before .part .ensures)) (c .enum-told2 .given .1),
+      at-pragma .pragma .given .1,
+      told (at-find-over-ascii .find-over-ascii .ensures ∙ ap (find overAscii) (at-part .part .ensures)) (c .enum-told2 .given .1),
     ))
 
 cast-t8 : tie.Need-cast-t8
@@ -42,15 +46,20 @@ cast-t8 c = search needs
 add-t9 : tie.Need-add-t9
 unfolding partOf
 add-t9 c =
-    let s = c .before .before .before .before .before .before .before .pragma .given .0 .0 in
+    let at-place = c .before .before in
+    let at-find-over-ascii = at-place .before .before in
+    let at-part = at-find-over-ascii .before in
+    let at-pragma = at-part .before .before in
+    let at-entry = at-pragma .before .before .before in
+    let s = at-pragma .pragma .given .0 .0 in
     let e = told
-    (c .before .before .before .before .find-over-ascii .ensures
-    ∙ ap (find overAscii) (c .before .before .before .before .before .part .ensures)) (c .before .before .place .given .1) in
+    (at-find-over-ascii .find-over-ascii .ensures
+    ∙ ap (find overAscii) (at-part .part .ensures)) (at-place .place .given .1) in
     omega (
       arith,
-      find-found overAscii (partOf (c .before .before .before .before .before .before .before .before .before .before .args .text .now) s)
-          (c .before .before .place .given .0 .0) e .inside,
-      length-take (s .len) (drop (s .start) (c .before .before .before .before .before .before .before .before .before .before .args .text .now)),
+      find-found overAscii (partOf (at-entry .args .text .now) s)
+          (at-place .place .given .0 .0) e .inside,
+      length-take (s .len) (drop (s .start) (at-entry .args .text .now)),
     )
 
 returns-2 : tie.Need-returns-2
@@ -60,10 +69,14 @@ returns-2 c = sym (rw (c .enum-told .given .1))
 returns-3 : tie.Need-returns-3
 unfolding overAsciiIn shifted
 returns-3 c =
+    let at-place = c .before .before in
+    let at-find-over-ascii = at-place .before .before in
+    let at-part = at-find-over-ascii .before in
+    let at-pragma = at-part .before .before in
     sym (rw (
-      c .before .before .before .before .before .before .before .pragma .given .1,
-      told (c .before .before .before .before .find-over-ascii .ensures
-          ∙ ap (find overAscii) (c .before .before .before .before .before .part .ensures)) (c .before .before .place .given .1),
+      at-pragma .pragma .given .1,
+      told (at-find-over-ascii .find-over-ascii .ensures
+          ∙ ap (find overAscii) (at-part .part .ensures)) (at-place .place .given .1),
     ))
 
 pub over-ascii-in-spec : {M : Type 1} → statement M

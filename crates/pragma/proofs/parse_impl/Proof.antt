@@ -39,10 +39,13 @@ form-with-requires c κs = search needs
 
 returns : tie.Need-returns
 unfolding formOfParts
-returns c = c .form-with .ensures
+returns c =
+    let at-same = c .before .before in
+    let at-first-length = at-same .before .before .before .before in
+    c .form-with .ensures
     ∙ sym (rw (
-      form-parts _ _ (c .before .before .before .before .before .before .first-length .ensures),
-      told (c .before .before .same .ensures) (c .before .if1 .taken),
+      form-parts _ _ (at-first-length .first-length .ensures),
+      told (at-same .same .ensures) (c .before .if1 .taken),
     ))
 
 slice-aggregate-same-2 : tie.Need-slice-aggregate-same-2
@@ -57,11 +60,15 @@ meta-form-requires c κs = search needs
 returns-2 : tie.Need-returns-2
 unfolding formOfParts
 returns-2 c =
+    let at-same2 = c .before .before in
+    let at-if1 = at-same2 .before .before in
+    let at-same = at-if1 .before in
+    let at-first-length = at-same .before .before .before .before in
     c .meta-form .ensures
     ∙ sym (rw (
-      form-parts _ _ (c .before .before .before .before .before .before .before .before .before .first-length .ensures),
-      told (c .before .before .before .before .before .same .ensures) (c .before .before .before .before .if1 .left),
-      told (c .before .before .same2 .ensures) (c .before .if2 .taken),
+      form-parts _ _ (at-first-length .first-length .ensures),
+      told (at-same .same .ensures) (at-if1 .if1 .left),
+      told (at-same2 .same2 .ensures) (c .before .if2 .taken),
     ))
 
 is-identifier-name-requires : tie.Need-is-identifier-name-requires
@@ -73,12 +80,18 @@ default-form-requires c κs = search needs
 returns-3 : tie.Need-returns-3
 unfolding formOfParts
 returns-3 c =
+    let at-is-identifier-name = c .before .before in
+    let at-if2 = at-is-identifier-name .before in
+    let at-same2 = at-if2 .before in
+    let at-if1 = at-same2 .before .before in
+    let at-same = at-if1 .before in
+    let at-first-length = at-same .before .before .before .before in
     c .default-form .ensures
     ∙ sym (rw (
-      form-parts _ _ (c .before .before .before .before .before .before .before .before .before .before .before .first-length .ensures),
-      told (c .before .before .before .before .before .before .before .same .ensures) (c .before .before .before .before .before .before .if1 .left),
-      told (c .before .before .before .before .same2 .ensures) (c .before .before .before .if2 .left),
-      told (c .before .before .is-identifier-name .ensures) (not-true _ (c .before .if3 .taken)),
+      form-parts _ _ (at-first-length .first-length .ensures),
+      told (at-same .same .ensures) (at-if1 .if1 .left),
+      told (at-same2 .same2 .ensures) (at-if2 .if2 .left),
+      told (at-is-identifier-name .is-identifier-name .ensures) (not-true _ (c .before .if3 .taken)),
     ))
 
 is-reserved-keyword-requires : tie.Need-is-reserved-keyword-requires
@@ -90,15 +103,23 @@ default-form-requires-2 c κs = search needs
 returns-4 : tie.Need-returns-4
 unfolding formOfParts
 returns-4 c =
+    let at-is-reserved-keyword = c .before .before in
+    let at-if3 = at-is-reserved-keyword .before in
+    let at-is-identifier-name = at-if3 .before in
+    let at-if2 = at-is-identifier-name .before in
+    let at-same2 = at-if2 .before in
+    let at-if1 = at-same2 .before .before in
+    let at-same = at-if1 .before in
+    let at-first-length = at-same .before .before .before .before in
     c .default-form2 .ensures
     ∙ sym (rw (
       form-parts _ _
-          (c .before .before .before .before .before .before .before .before .before .before .before .before .before .first-length .ensures),
-      told (c .before .before .before .before .before .before .before .before .before .same .ensures)
-          (c .before .before .before .before .before .before .before .before .if1 .left),
-      told (c .before .before .before .before .before .before .same2 .ensures) (c .before .before .before .before .before .if2 .left),
-      told (c .before .before .before .before .is-identifier-name .ensures) (not-false _ (c .before .before .before .if3 .left)),
-      told (c .before .before .is-reserved-keyword .ensures) (c .before .if4 .taken),
+          (at-first-length .first-length .ensures),
+      told (at-same .same .ensures)
+          (at-if1 .if1 .left),
+      told (at-same2 .same2 .ensures) (at-if2 .if2 .left),
+      told (at-is-identifier-name .is-identifier-name .ensures) (not-false _ (at-if3 .if3 .left)),
+      told (at-is-reserved-keyword .is-reserved-keyword .ensures) (c .before .if4 .taken),
     ))
 
 form-with-requires-2 : tie.Need-form-with-requires-2
@@ -107,15 +128,23 @@ form-with-requires-2 c κs = search needs
 returns-5 : tie.Need-returns-5
 unfolding formOfParts
 returns-5 c =
+    let at-is-reserved-keyword = c .before .before in
+    let at-if3 = at-is-reserved-keyword .before in
+    let at-is-identifier-name = at-if3 .before in
+    let at-if2 = at-is-identifier-name .before in
+    let at-same2 = at-if2 .before in
+    let at-if1 = at-same2 .before .before in
+    let at-same = at-if1 .before in
+    let at-first-length = at-same .before .before .before .before in
     c .form-with2 .ensures
     ∙ sym (rw (
       form-parts _ _
-          (c .before .before .before .before .before .before .before .before .before .before .before .before .before .first-length .ensures),
-      told (c .before .before .before .before .before .before .before .before .before .same .ensures)
-          (c .before .before .before .before .before .before .before .before .if1 .left),
-      told (c .before .before .before .before .before .before .same2 .ensures) (c .before .before .before .before .before .if2 .left),
-      told (c .before .before .before .before .is-identifier-name .ensures) (not-false _ (c .before .before .before .if3 .left)),
-      told (c .before .before .is-reserved-keyword .ensures) (c .before .if4 .left),
+          (at-first-length .first-length .ensures),
+      told (at-same .same .ensures)
+          (at-if1 .if1 .left),
+      told (at-same2 .same2 .ensures) (at-if2 .if2 .left),
+      told (at-is-identifier-name .is-identifier-name .ensures) (not-false _ (at-if3 .if3 .left)),
+      told (at-is-reserved-keyword .is-reserved-keyword .ensures) (c .before .if4 .left),
     ))
 
 pub parse-impl-spec : {M : Type 1} → statement M

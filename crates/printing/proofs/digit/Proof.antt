@@ -15,14 +15,14 @@ add-result c = search needs
 
 returns : tie.Need-returns
 unfolding hexDigit
-returns c = rw (lt-ltb _ _ ((c .if1) .taken)) refl
+returns c = rw (lt-ltb _ _ (c .if1 .taken)) refl
 
 add-result-2 : tie.Need-add-result-2
 add-result-2 c = search needs
 
 returns-2 : tie.Need-returns-2
 unfolding hexDigit
-returns-2 c = rw (le-ltb _ _ ((c .if1) .left)) refl
+returns-2 c = rw (le-ltb _ _ (c .if1 .left)) refl
 
 pub digit-spec : {M : Type 1} → statement M
 digit-spec = tie.close (tie.spec add-result returns add-result-2 returns-2)

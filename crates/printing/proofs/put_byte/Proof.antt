@@ -28,7 +28,12 @@ same-length : tie.Need-same-length
 same-length c = search needs
 
 returns : tie.Need-returns
-returns c = wrote-then (omega arith) ((c .before .before .before .before .before .before .before .before .put) .ensures) (rw ((c .before .before .before .before .digit) .ensures, (c .before .before .before .digit2) .ensures) at ((c .before .before .put-two) .ensures))
+returns c =
+    let at-put-two = c .before .before in
+    let at-digit2 = at-put-two .before in
+    let at-digit = at-digit2 .before in
+    let at-put = at-digit .before .before .before .before in
+    wrote-then (omega arith) (at-put .put .ensures) (rw (at-digit .digit .ensures, at-digit2 .digit2 .ensures) at (at-put-two .put-two .ensures))
 
 pub put-byte-spec : {M : Type 1} → statement M
 put-byte-spec =

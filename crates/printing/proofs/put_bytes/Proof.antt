@@ -35,13 +35,18 @@ loop-less : tie.Need-loop-less Inv-loop μ-loop
 loop-less c = omega arith
 
 loop-again : tie.Need-loop-again Inv-loop μ-loop
-loop-again c = filled-next hexBytes _ (λ xs. hex-snoc xs _) (omega (arith, (c .before .before .before .before .before .before .before .before .before))) ((c .before .before .before .before .before .loop-test) .taken) ((c .before .before .before .before .before .before .loop) .inv) ((c .before .before .put-byte) .ensures)
+loop-again c =
+    let at-put-byte = c .before .before in
+    let at-loop-test = at-put-byte .before .before .before in
+    let at-loop = at-loop-test .before in
+    let at-entry = at-loop .before .before .before in
+    filled-next hexBytes _ (λ xs. hex-snoc xs _) (omega (arith, at-entry)) (at-loop-test .loop-test .taken) (at-loop .loop .inv) (at-put-byte .put-byte .ensures)
 
 same-length : tie.Need-same-length Inv-loop μ-loop
 same-length c = (c .before .loop) .inv .same
 
 returns : tie.Need-returns Inv-loop μ-loop
-returns c = filled-end hexBytes _ ((c .before .loop) .inv) ((c .loop-test) .left)
+returns c = filled-end hexBytes _ (c .before .loop .inv) (c .loop-test .left)
 
 pub put-bytes-spec : {M : Type 1} → statement M
 put-bytes-spec =

@@ -15,7 +15,7 @@ put-slice-requires : tie.Need-put-slice-requires
 put-slice-requires c κs = search needs
 
 put-bytes-requires : tie.Need-put-bytes-requires
-put-bytes-requires c κs = wrote-small ((c .before .before .before .put-slice) .ensures)
+put-bytes-requires c κs = wrote-small (c .before .before .before .put-slice .ensures)
 
 put-requires : tie.Need-put-requires
 put-requires c κs = search needs
@@ -24,7 +24,12 @@ same-length : tie.Need-same-length
 same-length c = search needs
 
 returns : tie.Need-returns
-returns c = wrote-then (omega (arith, (c .before .before .before .before .before .before .before .before .before .before .before .before .before .before .before))) (wrote-then (omega (arith, (c .before .before .before .before .before .before .before .before .before .before .before .before .before .before .before))) ((c .before .before .before .before .before .before .before .before .before .before .put-slice) .ensures) ((c .before .before .before .before .before .before .put-bytes) .ensures)) ((c .before .before .put) .ensures)
+returns c =
+    let at-put = c .before .before in
+    let at-put-bytes = at-put .before .before .before .before in
+    let at-put-slice = at-put-bytes .before .before .before .before in
+    let at-entry = at-put-slice .before .before .before .before .before in
+    wrote-then (omega (arith, at-entry)) (wrote-then (omega (arith, at-entry)) (at-put-slice .put-slice .ensures) (at-put-bytes .put-bytes .ensures)) (at-put .put .ensures)
 
 pub put-line-spec : {M : Type 1} → statement M
 put-line-spec =

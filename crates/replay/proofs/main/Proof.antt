@@ -6,7 +6,9 @@ use Rattle.replay.proofs.main.Statement.{statement}
 use Rattle.replay.proofs.main.Tie as tie
 
 abbrev Inv-loop : tie.InvT-loop
-Inv-loop job₀ text₀ tape₀ calls₀ notices₀ open₀ number₀ job text tape calls notices opened number = (number ≤ 0xffffffff) × (length job ≡ 131072) × (length text ≡ 131072) × (length tape ≡ 131072) × (length calls ≡ 65536) × (length notices ≡ 1024)
+Inv-loop job₀ text₀ tape₀ calls₀ notices₀ open₀ number₀ job text tape calls notices opened
+    number = (number ≤ 0xffffffff) × (length job ≡ 131072) × (length text ≡ 131072) × (length tape ≡ 131072) × (length calls ≡ 65536) × (length
+    notices ≡ 1024)
 
 abbrev μ-loop : tie.MeasureT-loop
 μ-loop job₀ text₀ tape₀ calls₀ notices₀ open₀ number₀ job text tape calls notices opened number = 0xffffffff - number

@@ -7,7 +7,8 @@ use Rattle.replay.proofs.replay_roots.Statement.{statement}
 use Rattle.replay.proofs.replay_roots.Tie as tie
 
 abbrev Inv-loop : tie.InvT-loop
-Inv-loop text count tape₀ calls₀ notices₀ open₀ state₀ number₀ tape calls notices opened state number = (number ≤ count) × (length tape ≡ length tape₀) × (length calls ≡ length calls₀) × (length notices ≡ length notices₀)
+Inv-loop text count tape₀ calls₀ notices₀ open₀ state₀ number₀ tape calls notices opened state
+    number = (number ≤ count) × (length tape ≡ length tape₀) × (length calls ≡ length calls₀) × (length notices ≡ length notices₀)
 
 abbrev μ-loop : tie.MeasureT-loop
 μ-loop text count tape₀ calls₀ notices₀ open₀ state₀ number₀ tape calls notices opened state number = count - number
@@ -46,16 +47,23 @@ replay-root-requires : tie.Need-replay-root-requires Inv-loop μ-loop
 replay-root-requires c κs = search needs
 
 add-number : tie.Need-add-number Inv-loop μ-loop
-add-number c = record { fits = omega (arith, (c .before .before .before .before .before .before .before .before .before .before .before .before .before .before .before .before .loop-test) .taken, (c .before .before .before .before .before .before .before .before .before .before .before .before .before .before .before .before .before .before .before .before .before .before .fits) .count .fits) }
+add-number c =
+    let at-loop-test = c .before .before .before .before .before .before .before .before .before .before .before .before .before .before .before .before in
+    let at-fits = at-loop-test .before .before .before .before .before .before in
+    record { fits = omega (arith, at-loop-test .loop-test .taken, at-fits .fits .count .fits) }
 
 loop-less : tie.Need-loop-less Inv-loop μ-loop
 loop-less c = search needs
 
 loop-again : tie.Need-loop-again Inv-loop μ-loop
 loop-again c =
-    let inv = (c .before .before .before .before .before .before .before .before .before .before .before .before .before .before .before .before .before .loop) .inv in
-    let root = (c .before .before .before .before .replay-root) in
-    (omega (arith, (c .before .before .before .before .before .before .before .before .before .before .before .before .before .before .before .before .loop-test) .taken), (c .before .before .before .before .before .before .before .before .before .before .before .before .before .before .read-part) .kept .0 ∙ inv .1, root .kept .1 .1 .1 .1 .0 ∙ inv .2, root .kept .1 .1 .1 .1 .1 .0 ∙ inv .3)
+    let at-replay-root = c .before .before .before .before in
+    let at-read-part = at-replay-root .before .before .before .before .before .before .before .before .before .before in
+    let at-loop-test = at-read-part .before .before in
+    let at-loop = at-loop-test .before in
+    let inv = at-loop .loop .inv in
+    let root = at-replay-root .replay-root in
+    (omega (arith, at-loop-test .loop-test .taken), at-read-part .read-part .kept .0 ∙ inv .1, root .kept .1 .1 .1 .1 .0 ∙ inv .2, root .kept .1 .1 .1 .1 .1 .0 ∙ inv .3)
 
 same-length-4 : tie.Need-same-length-4 Inv-loop μ-loop
 same-length-4 c = search needs

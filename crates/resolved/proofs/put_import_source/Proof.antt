@@ -27,14 +27,23 @@ same-length c = search needs
 
 returns : tie.Need-returns
 unfolding importSource
-returns c = rw ((c .before .before .before .before .before .enum-told) .given .1) ((c .before .before .put-slice) .ensures)
+returns c =
+    let at-put-slice = c .before .before in
+    let at-enum-told = at-put-slice .before .before .before in
+    rw (at-enum-told .enum-told .given .1) (at-put-slice .put-slice .ensures)
 
 same-length-2 : tie.Need-same-length-2
 same-length-2 c = search needs
 
 returns-2 : tie.Need-returns-2
 unfolding importSource
-returns-2 c = rw ((c .before .before .before .before .before .before .setting) .given .1, ← (c .before .before .before .before .part) .ensures) ((c .before .before .put-or-react) .ensures)
+returns-2 c =
+    let at-put-or-react = c .before .before in
+    let at-part = at-put-or-react .before .before in
+    let at-setting = at-part .before .before in
+    rw (at-setting .setting .given .1, ← at-part .part .ensures) (at-put-or-react .put-or-react .ensures)
 
 pub put-import-source-spec : {M : Type 1} → statement M
-put-import-source-spec = tie.close (tie.spec enum-told slice-aggregate-put-slice put-slice-requires enum-known-setting part-requires put-or-react-requires same-length returns same-length-2 returns-2)
+put-import-source-spec = tie.close
+    (tie.spec enum-told slice-aggregate-put-slice put-slice-requires enum-known-setting part-requires put-or-react-requires same-length returns
+    same-length-2 returns-2)

@@ -30,7 +30,10 @@ some [] h = absurd (h refl)
 some (b ∷ l) h = refl
 
 returns : tie.Need-returns
-returns c = rw (none _ ((c .before .before .before .before .before .if1) .taken)) ((c .before .before .put-slice) .ensures)
+returns c =
+    let at-put-slice = c .before .before in
+    let at-if1 = at-put-slice .before .before .before in
+    rw (none _ (at-if1 .if1 .taken)) (at-put-slice .put-slice .ensures)
 
 put-slice-requires-2 : tie.Need-put-slice-requires-2
 put-slice-requires-2 c κs = search needs
@@ -39,7 +42,7 @@ same-length-2 : tie.Need-same-length-2
 same-length-2 c = search needs
 
 returns-2 : tie.Need-returns-2
-returns-2 c = rw (some _ ((c .before .before .before .before .if1) .left)) ((c .before .before .put-slice2) .ensures)
+returns-2 c = rw (some _ (c .before .before .before .before .if1 .left)) (c .before .before .put-slice2 .ensures)
 
 pub put-or-react-spec : {M : Type 1} → statement M
 put-or-react-spec = tie.close (tie.spec slice-aggregate-put-slice put-slice-requires same-length returns put-slice-requires-2 same-length-2 returns-2)

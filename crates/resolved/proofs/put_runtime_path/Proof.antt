@@ -13,7 +13,10 @@ same-length : tie.Need-same-length
 same-length c = search needs
 
 returns : tie.Need-returns
-returns c = rw ((c .before .before .before .before .before .if1) .taken) ((c .before .before .put-slice) .ensures)
+returns c =
+    let at-put-slice = c .before .before in
+    let at-if1 = at-put-slice .before .before .before in
+    rw (at-if1 .if1 .taken) (at-put-slice .put-slice .ensures)
 
 slice-aggregate-put-slice-2 : tie.Need-slice-aggregate-put-slice-2
 slice-aggregate-put-slice-2 c = search needs
@@ -25,7 +28,12 @@ same-length-2 : tie.Need-same-length-2
 same-length-2 c = search needs
 
 returns-2 : tie.Need-returns-2
-returns-2 c = rw ((c .before .before .before .before .before .if1) .left) ((c .before .before .put-slice2) .ensures)
+returns-2 c =
+    let at-put-slice2 = c .before .before in
+    let at-if1 = at-put-slice2 .before .before .before in
+    rw (at-if1 .if1 .left) (at-put-slice2 .put-slice2 .ensures)
 
 pub put-runtime-path-spec : {M : Type 1} → statement M
-put-runtime-path-spec = tie.close (tie.spec slice-aggregate-put-slice put-slice-requires same-length returns slice-aggregate-put-slice-2 put-slice-requires-2 same-length-2 returns-2)
+put-runtime-path-spec = tie.close
+    (tie.spec slice-aggregate-put-slice put-slice-requires same-length returns slice-aggregate-put-slice-2 put-slice-requires-2 same-length-2
+    returns-2)

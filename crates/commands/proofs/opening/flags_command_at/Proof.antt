@@ -34,11 +34,19 @@ read-u16-requires c κs = search needs
 
 returns-4 : tie.Need-returns-4
 unfolding flagsCommand
-returns-4 c = rw (at-first flagsCommand _ (c .before .before .before .before .before .before .if1 .left), c .before .before .before .before .if2 .left, le-ltb _ _ (c .before .before .if3 .left), ← c .before .read-u16 .ensures, lt-ltb _ _ (c .if4 .taken))
+returns-4 c =
+    let at-if3 = c .before .before in
+    let at-if2 = at-if3 .before .before in
+    let at-if1 = at-if2 .before .before in
+    rw (at-first flagsCommand _ (at-if1 .if1 .left), at-if2 .if2 .left, le-ltb _ _ (at-if3 .if3 .left), ← c .before .read-u16 .ensures, lt-ltb _ _ (c .if4 .taken))
 
 returns-5 : tie.Need-returns-5
 unfolding flagsCommand
-returns-5 c = rw (at-first flagsCommand _ (c .before .before .before .before .before .before .if1 .left), c .before .before .before .before .if2 .left, le-ltb _ _ (c .before .before .if3 .left), ← c .before .read-u16 .ensures, le-ltb _ _ (c .if4 .left))
+returns-5 c =
+    let at-if3 = c .before .before in
+    let at-if2 = at-if3 .before .before in
+    let at-if1 = at-if2 .before .before in
+    rw (at-first flagsCommand _ (at-if1 .if1 .left), at-if2 .if2 .left, le-ltb _ _ (at-if3 .if3 .left), ← c .before .read-u16 .ensures, le-ltb _ _ (c .if4 .left))
 
 pub flags-command-at-spec : {M : Type 1} → statement M
 flags-command-at-spec =

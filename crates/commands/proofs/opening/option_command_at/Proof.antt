@@ -37,7 +37,10 @@ returns-3 c = rw (at-first (optionCommand _) _ (c .before .before .before .befor
 
 returns-4 : tie.Need-returns-4
 unfolding optionCommand
-returns-4 c = rw (at-first (optionCommand _) _ (c .before .before .before .before .before .if1 .left), c .before .before .match .keys2, lt-ltb _ _ (c .before .if3 .left), lt-ltb _ _ (c .if4 .taken))
+returns-4 c =
+    let at-match = c .before .before in
+    let at-if1 = at-match .before .before .before in
+    rw (at-first (optionCommand _) _ (at-if1 .if1 .left), at-match .match .keys2, lt-ltb _ _ (c .before .if3 .left), lt-ltb _ _ (c .if4 .taken))
 
 read-span-requires-2 : tie.Need-read-span-requires-2
 read-span-requires-2 c κs = search needs
@@ -48,7 +51,10 @@ returns-5 c = rw (at-first (optionCommand _) _ (c .before .before .before .befor
 
 returns-6 : tie.Need-returns-6
 unfolding optionCommand
-returns-6 c = rw (at-first (optionCommand _) _ (c .before .before .before .before .before .if1 .left), c .before .before .match .keys3, lt-ltb _ _ (c .before .if5 .left), lt-ltb _ _ (c .if6 .taken))
+returns-6 c =
+    let at-match = c .before .before in
+    let at-if1 = at-match .before .before .before in
+    rw (at-first (optionCommand _) _ (at-if1 .if1 .left), at-match .match .keys3, lt-ltb _ _ (c .before .if5 .left), lt-ltb _ _ (c .if6 .taken))
 
 read-span-requires-3 : tie.Need-read-span-requires-3
 read-span-requires-3 c κs = search needs
@@ -59,30 +65,60 @@ returns-7 c = rw (at-first (optionCommand _) _ (c .before .before .before .befor
 
 returns-8 : tie.Need-returns-8
 unfolding optionCommand
-returns-8 c = rw (at-first (optionCommand _) _ (c .before .before .before .before .before .if1 .left), c .before .before .match .keys4, lt-ltb _ _ (c .before .if7 .left), lt-ltb _ _ (c .if8 .taken))
+returns-8 c =
+    let at-match = c .before .before in
+    let at-if1 = at-match .before .before .before in
+    rw (at-first (optionCommand _) _ (at-if1 .if1 .left), at-match .match .keys4, lt-ltb _ _ (c .before .if7 .left), lt-ltb _ _ (c .if8 .taken))
 
 read-span-requires-4 : tie.Need-read-span-requires-4
 read-span-requires-4 c κs = search needs
 
 returns-9 : tie.Need-returns-9
 unfolding optionCommand
-returns-9 c = rw (at-first (optionCommand _) _ (c .before .before .before .before .before .if1 .left), c .before .before .match .keys1, le-ltb _ _ (c .before .if2 .left)) (ap Comment (c .read-span .ensures))
+returns-9 c =
+    let at-match = c .before .before in
+    let at-if1 = at-match .before .before .before in
+    rw (at-first (optionCommand _) _ (at-if1 .if1 .left), at-match .match .keys1, le-ltb _ _ (c .before .if2 .left)) (ap Comment (c .read-span .ensures))
 
 returns-10 : tie.Need-returns-10
 unfolding optionCommand
-returns-10 c = rw (at-first (optionCommand _) _ (c .before .before .before .before .before .before .if1 .left), c .before .before .before .match .keys2, lt-ltb _ _ (c .before .before .if3 .left), le-ltb _ _ (c .before .if4 .left)) (ap Pragma (c .read-span2 .ensures))
+returns-10 c =
+    let at-if3 = c .before .before in
+    let at-match = at-if3 .before in
+    let at-if1 = at-match .before .before .before in
+    rw (at-first (optionCommand _) _ (at-if1 .if1 .left), at-match .match .keys2, lt-ltb _ _ (at-if3 .if3 .left), le-ltb _ _ (c .before .if4 .left))
+    (ap Pragma (c .read-span2 .ensures))
 
 returns-11 : tie.Need-returns-11
 unfolding optionCommand
-returns-11 c = rw (at-first (optionCommand _) _ (c .before .before .before .before .before .before .if1 .left), c .before .before .before .match .keys3, lt-ltb _ _ (c .before .before .if5 .left), le-ltb _ _ (c .before .if6 .left)) (ap PragmaFrag (c .read-span3 .ensures))
+returns-11 c =
+    let at-if5 = c .before .before in
+    let at-match = at-if5 .before in
+    let at-if1 = at-match .before .before .before in
+    rw (at-first (optionCommand _) _ (at-if1 .if1 .left), at-match .match .keys3, lt-ltb _ _ (at-if5 .if5 .left), le-ltb _ _ (c .before .if6 .left))
+    (ap PragmaFrag (c .read-span3 .ensures))
 
 returns-12 : tie.Need-returns-12
 unfolding optionCommand
-returns-12 c = rw (at-first (optionCommand _) _ (c .before .before .before .before .before .before .if1 .left), c .before .before .before .match .keys4, lt-ltb _ _ (c .before .before .if7 .left), le-ltb _ _ (c .before .if8 .left)) (ap ImportSource (c .read-span4 .ensures))
+returns-12 c =
+    let at-if7 = c .before .before in
+    let at-match = at-if7 .before in
+    let at-if1 = at-match .before .before .before in
+    rw (at-first (optionCommand _) _ (at-if1 .if1 .left), at-match .match .keys4, lt-ltb _ _ (at-if7 .if7 .left), le-ltb _ _ (c .before .if8 .left))
+    (ap ImportSource (c .read-span4 .ensures))
 
 returns-13 : tie.Need-returns-13
 unfolding optionCommand
-returns-13 c = rw (at-first (optionCommand _) _ (c .before .before .before .if1 .left), ne-eqb _ _ (c .match .rest .0 .0 .0 .1), ne-eqb _ _ (c .match .rest .0 .0 .1), ne-eqb _ _ (c .match .rest .0 .1), ne-eqb _ _ (c .match .rest .1), and-false)
+returns-13 c =
+    rw (
+      at-first (optionCommand _) _ (c .before .before .before .if1 .left),
+      ne-eqb _ _ (c .match .rest .0 .0 .0 .1),
+      ne-eqb _ _ (c .match .rest .0 .0 .1),
+      ne-eqb _ _
+          (c .match .rest .0 .1),
+      ne-eqb _ _ (c .match .rest .1),
+      and-false,
+    )
 
 pub option-command-at-spec : {M : Type 1} → statement M
 option-command-at-spec =

@@ -56,19 +56,33 @@ read-u16-requires-2 c κs = search needs
 
 returns-6 : tie.Need-returns-6
 unfolding attributeCommand
-returns-6 c = rw (at-first attributeCommand _ (c .before .before .before .before .before .if1 .left), c .before .before .match .keys1, le-ltb _ _ (c .before .if2 .left)) (ap attribute.Plain (c .read-span .ensures))
+returns-6 c =
+    let at-match = c .before .before in
+    let at-if1 = at-match .before .before .before in
+    rw (at-first attributeCommand _ (at-if1 .if1 .left), at-match .match .keys1, le-ltb _ _ (c .before .if2 .left)) (ap attribute.Plain (c .read-span .ensures))
 
 returns-7 : tie.Need-returns-7
 unfolding attributeCommand
-returns-7 c = rw (at-first attributeCommand _ (c .before .before .before .before .before .before .if1 .left), c .before .before .before .match .keys2, le-ltb _ _ (c .before .before .if3 .left)) (ap₂ attribute.Namespaced (c .before .read-span2 .ensures) (c .read-span3 .ensures))
+returns-7 c =
+    let at-if3 = c .before .before in
+    let at-match = at-if3 .before in
+    let at-if1 = at-match .before .before .before in
+    rw (at-first attributeCommand _ (at-if1 .if1 .left), at-match .match .keys2, le-ltb _ _ (at-if3 .if3 .left))
+    (ap₂ attribute.Namespaced (c .before .read-span2 .ensures) (c .read-span3 .ensures))
 
 returns-8 : tie.Need-returns-8
 unfolding attributeCommand
-returns-8 c = rw (at-first attributeCommand _ (c .before .before .before .before .before .if1 .left), c .before .before .match .keys3, le-ltb _ _ (c .before .if4 .left)) (ap attribute.Spread (c .read-u16 .ensures))
+returns-8 c =
+    let at-match = c .before .before in
+    let at-if1 = at-match .before .before .before in
+    rw (at-first attributeCommand _ (at-if1 .if1 .left), at-match .match .keys3, le-ltb _ _ (c .before .if4 .left)) (ap attribute.Spread (c .read-u16 .ensures))
 
 returns-9 : tie.Need-returns-9
 unfolding attributeCommand
-returns-9 c = rw (at-first attributeCommand _ (c .before .before .before .before .before .if1 .left), c .before .before .match .keys4, le-ltb _ _ (c .before .if5 .left)) (ap attribute.Literal (c .read-u162 .ensures))
+returns-9 c =
+    let at-match = c .before .before in
+    let at-if1 = at-match .before .before .before in
+    rw (at-first attributeCommand _ (at-if1 .if1 .left), at-match .match .keys4, le-ltb _ _ (c .before .if5 .left)) (ap attribute.Literal (c .read-u162 .ensures))
 
 returns-10 : tie.Need-returns-10
 unfolding attributeCommand
@@ -76,7 +90,16 @@ returns-10 c = rw (at-first attributeCommand _ (c .before .before .before .if1 .
 
 returns-11 : tie.Need-returns-11
 unfolding attributeCommand
-returns-11 c = rw (at-first attributeCommand _ (c .before .before .before .if1 .left), ne-eqb _ _ (c .match .rest .0 .0 .0 .0 .1), ne-eqb _ _ (c .match .rest .0 .0 .0 .1), ne-eqb _ _ (c .match .rest .0 .0 .1), ne-eqb _ _ (c .match .rest .0 .1), ne-eqb _ _ (c .match .rest .1))
+returns-11 c =
+    rw (
+      at-first attributeCommand _ (c .before .before .before .if1 .left),
+      ne-eqb _ _ (c .match .rest .0 .0 .0 .0 .1),
+      ne-eqb _ _ (c .match .rest .0 .0 .0 .1),
+      ne-eqb
+          _ _ (c .match .rest .0 .0 .1),
+      ne-eqb _ _ (c .match .rest .0 .1),
+      ne-eqb _ _ (c .match .rest .1),
+    )
 
 pub attribute-command-at-spec : {M : Type 1} → statement M
 attribute-command-at-spec =

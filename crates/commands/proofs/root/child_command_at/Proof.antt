@@ -60,11 +60,17 @@ read-place-requires-2 c κs = search needs
 
 returns-7 : tie.Need-returns-7
 unfolding childCommand
-returns-7 c = rw (at-first childCommand _ (c .before .before .before .before .before .if1 .left), c .before .before .match .keys1, le-ltb _ _ (c .before .if2 .left)) (ap child.Text (c .read-span .ensures))
+returns-7 c =
+    let at-match = c .before .before in
+    let at-if1 = at-match .before .before .before in
+    rw (at-first childCommand _ (at-if1 .if1 .left), at-match .match .keys1, le-ltb _ _ (c .before .if2 .left)) (ap child.Text (c .read-span .ensures))
 
 returns-8 : tie.Need-returns-8
 unfolding childCommand
-returns-8 c = rw (at-first childCommand _ (c .before .before .before .before .before .if1 .left), c .before .before .match .keys2, le-ltb _ _ (c .before .if3 .left)) (ap child.Expression (c .read-u16 .ensures))
+returns-8 c =
+    let at-match = c .before .before in
+    let at-if1 = at-match .before .before .before in
+    rw (at-first childCommand _ (at-if1 .if1 .left), at-match .match .keys2, le-ltb _ _ (c .before .if3 .left)) (ap child.Expression (c .read-u16 .ensures))
 
 returns-9 : tie.Need-returns-9
 unfolding childCommand
@@ -72,15 +78,24 @@ returns-9 c = rw (at-first childCommand _ (c .before .before .before .if1 .left)
 
 returns-10 : tie.Need-returns-10
 unfolding childCommand
-returns-10 c = rw (at-first childCommand _ (c .before .before .before .before .before .if1 .left), c .before .before .match .keys4, le-ltb _ _ (c .before .if4 .left)) (ap child.Spread (c .read-u162 .ensures))
+returns-10 c =
+    let at-match = c .before .before in
+    let at-if1 = at-match .before .before .before in
+    rw (at-first childCommand _ (at-if1 .if1 .left), at-match .match .keys4, le-ltb _ _ (c .before .if4 .left)) (ap child.Spread (c .read-u162 .ensures))
 
 returns-11 : tie.Need-returns-11
 unfolding childCommand
-returns-11 c = rw (at-first childCommand _ (c .before .before .before .before .before .if1 .left), c .before .before .match .keys5, le-ltb _ _ (c .before .if5 .left)) (ap child.Element (c .read-place .ensures))
+returns-11 c =
+    let at-match = c .before .before in
+    let at-if1 = at-match .before .before .before in
+    rw (at-first childCommand _ (at-if1 .if1 .left), at-match .match .keys5, le-ltb _ _ (c .before .if5 .left)) (ap child.Element (c .read-place .ensures))
 
 returns-12 : tie.Need-returns-12
 unfolding childCommand
-returns-12 c = rw (at-first childCommand _ (c .before .before .before .before .before .if1 .left), c .before .before .match .keys6, le-ltb _ _ (c .before .if6 .left)) (ap child.Fragment (c .read-place2 .ensures))
+returns-12 c =
+    let at-match = c .before .before in
+    let at-if1 = at-match .before .before .before in
+    rw (at-first childCommand _ (at-if1 .if1 .left), at-match .match .keys6, le-ltb _ _ (c .before .if6 .left)) (ap child.Fragment (c .read-place2 .ensures))
 
 returns-13 : tie.Need-returns-13
 unfolding childCommand
@@ -88,7 +103,18 @@ returns-13 c = rw (at-first childCommand _ (c .before .before .before .if1 .left
 
 returns-14 : tie.Need-returns-14
 unfolding childCommand
-returns-14 c = rw (at-first childCommand _ (c .before .before .before .if1 .left), ne-eqb _ _ (c .match .rest .0 .0 .0 .0 .0 .0 .1), ne-eqb _ _ (c .match .rest .0 .0 .0 .0 .0 .1), ne-eqb _ _ (c .match .rest .0 .0 .0 .0 .1), ne-eqb _ _ (c .match .rest .0 .0 .0 .1), ne-eqb _ _ (c .match .rest .0 .0 .1), ne-eqb _ _ (c .match .rest .0 .1), ne-eqb _ _ (c .match .rest .1))
+returns-14 c =
+    rw (
+      at-first childCommand _ (c .before .before .before .if1 .left),
+      ne-eqb _ _ (c .match .rest .0 .0 .0 .0 .0 .0 .1),
+      ne-eqb _ _ (c .match .rest .0 .0 .0 .0 .0 .1),
+      ne-eqb _ _ (c .match .rest .0 .0 .0 .0 .1),
+      ne-eqb _ _ (c .match .rest .0 .0 .0 .1),
+      ne-eqb _ _ (c .match .rest .0 .0 .1),
+      ne-eqb _ _
+          (c .match .rest .0 .1),
+      ne-eqb _ _ (c .match .rest .1),
+    )
 
 pub child-command-at-spec : {M : Type 1} → statement M
 child-command-at-spec =

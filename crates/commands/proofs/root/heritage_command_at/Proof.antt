@@ -54,10 +54,18 @@ shared-slice-read-kind : tie.Need-shared-slice-read-kind
 shared-slice-read-kind c = search needs
 
 returns-4 : tie.Need-returns-4
-returns-4 c = rw (at-first heritageCommand _ (c .before .before .before .before .before .before .if1 .left), c .before .before .before .before .if2 .left, whole _ (c .before .before .if3 .left), lt-leb _ _ (c .if4 .taken))
+returns-4 c =
+    let at-if3 = c .before .before in
+    let at-if2 = at-if3 .before .before in
+    let at-if1 = at-if2 .before .before in
+    rw (at-first heritageCommand _ (at-if1 .if1 .left), at-if2 .if2 .left, whole _ (at-if3 .if3 .left), lt-leb _ _ (c .if4 .taken))
 
 returns-5 : tie.Need-returns-5
-returns-5 c = rw (at-first heritageCommand _ (c .before .before .before .before .before .before .if1 .left), c .before .before .before .before .if2 .left, whole _ (c .before .before .if3 .left), le-leb _ _ (c .if4 .left))
+returns-5 c =
+    let at-if3 = c .before .before in
+    let at-if2 = at-if3 .before .before in
+    let at-if1 = at-if2 .before .before in
+    rw (at-first heritageCommand _ (at-if1 .if1 .left), at-if2 .if2 .left, whole _ (at-if3 .if3 .left), le-leb _ _ (c .if4 .left))
 
 pub heritage-command-at-spec : {M : Type 1} → statement M
 heritage-command-at-spec =

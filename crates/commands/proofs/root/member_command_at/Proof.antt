@@ -36,7 +36,10 @@ read-span-requires c κs = search needs
 
 returns-4 : tie.Need-returns-4
 unfolding memberCommand
-returns-4 c = rw (at-first memberCommand _ (c .before .before .before .before .before .if1 .left), c .before .before .before .if2 .left, le-ltb _ _ (c .before .if3 .left)) (ap member.Member (c .read-span .ensures))
+returns-4 c =
+    let at-if2 = c .before .before .before in
+    let at-if1 = at-if2 .before .before in
+    rw (at-first memberCommand _ (at-if1 .if1 .left), at-if2 .if2 .left, le-ltb _ _ (c .before .if3 .left)) (ap member.Member (c .read-span .ensures))
 
 pub member-command-at-spec : {M : Type 1} → statement M
 member-command-at-spec =

@@ -49,11 +49,17 @@ read-span-requires-4 c κs = search needs
 
 returns-5 : tie.Need-returns-5
 unfolding nameCommand
-returns-5 c = rw (at-first nameCommand _ (c .before .before .before .before .before .if1 .left), c .before .before .match .keys1, le-ltb _ _ (c .before .if2 .left)) (ap name.Plain (c .read-span .ensures))
+returns-5 c =
+    let at-match = c .before .before in
+    let at-if1 = at-match .before .before .before in
+    rw (at-first nameCommand _ (at-if1 .if1 .left), at-match .match .keys1, le-ltb _ _ (c .before .if2 .left)) (ap name.Plain (c .read-span .ensures))
 
 returns-6 : tie.Need-returns-6
 unfolding nameCommand
-returns-6 c = rw (at-first nameCommand _ (c .before .before .before .before .before .if1 .left), c .before .before .match .keys2, le-ltb _ _ (c .before .if3 .left)) (ap name.Identifier (c .read-span2 .ensures))
+returns-6 c =
+    let at-match = c .before .before in
+    let at-if1 = at-match .before .before .before in
+    rw (at-first nameCommand _ (at-if1 .if1 .left), at-match .match .keys2, le-ltb _ _ (c .before .if3 .left)) (ap name.Identifier (c .read-span2 .ensures))
 
 returns-7 : tie.Need-returns-7
 unfolding nameCommand
@@ -61,11 +67,24 @@ returns-7 c = rw (at-first nameCommand _ (c .before .before .before .if1 .left),
 
 returns-8 : tie.Need-returns-8
 unfolding nameCommand
-returns-8 c = rw (at-first nameCommand _ (c .before .before .before .before .before .before .if1 .left), c .before .before .before .match .keys4, le-ltb _ _ (c .before .before .if4 .left)) (ap₂ name.Namespaced (c .before .read-span3 .ensures) (c .read-span4 .ensures))
+returns-8 c =
+    let at-if4 = c .before .before in
+    let at-match = at-if4 .before in
+    let at-if1 = at-match .before .before .before in
+    rw (at-first nameCommand _ (at-if1 .if1 .left), at-match .match .keys4, le-ltb _ _ (at-if4 .if4 .left))
+    (ap₂ name.Namespaced (c .before .read-span3 .ensures) (c .read-span4 .ensures))
 
 returns-9 : tie.Need-returns-9
 unfolding nameCommand
-returns-9 c = rw (at-first nameCommand _ (c .before .before .before .if1 .left), ne-eqb _ _ (c .match .rest .0 .0 .0 .1), ne-eqb _ _ (c .match .rest .0 .0 .1), ne-eqb _ _ (c .match .rest .0 .1), ne-eqb _ _ (c .match .rest .1))
+returns-9 c =
+    rw (
+      at-first nameCommand _ (c .before .before .before .if1 .left),
+      ne-eqb _ _ (c .match .rest .0 .0 .0 .1),
+      ne-eqb _ _ (c .match .rest .0 .0 .1),
+      ne-eqb _ _
+          (c .match .rest .0 .1),
+      ne-eqb _ _ (c .match .rest .1),
+    )
 
 pub name-command-at-spec : {M : Type 1} → statement M
 name-command-at-spec =

@@ -42,11 +42,19 @@ read-span-requires c κs = search needs
 
 returns-4 : tie.Need-returns-4
 unfolding propertyCommand
-returns-4 c = rw (at-first propertyCommand _ (c .before .before .before .before .before .if1 .left), c .before .before .match .keys1, le-ltb _ _ (c .before .if2 .left)) (ap property.Property (c .read-u16 .ensures))
+returns-4 c =
+    let at-match = c .before .before in
+    let at-if1 = at-match .before .before .before in
+    rw (at-first propertyCommand _ (at-if1 .if1 .left), at-match .match .keys1, le-ltb _ _ (c .before .if2 .left)) (ap property.Property (c .read-u16 .ensures))
 
 returns-5 : tie.Need-returns-5
 unfolding propertyCommand
-returns-5 c = rw (at-first propertyCommand _ (c .before .before .before .before .before .before .if1 .left), c .before .before .before .match .keys2, le-ltb _ _ (c .before .before .if3 .left)) (ap₂ property.Named (c .before .read-u162 .ensures) (c .read-span .ensures))
+returns-5 c =
+    let at-if3 = c .before .before in
+    let at-match = at-if3 .before in
+    let at-if1 = at-match .before .before .before in
+    rw (at-first propertyCommand _ (at-if1 .if1 .left), at-match .match .keys2, le-ltb _ _ (at-if3 .if3 .left))
+    (ap₂ property.Named (c .before .read-u162 .ensures) (c .read-span .ensures))
 
 returns-6 : tie.Need-returns-6
 unfolding propertyCommand
@@ -54,7 +62,9 @@ returns-6 c = rw (at-first propertyCommand _ (c .before .before .before .if1 .le
 
 returns-7 : tie.Need-returns-7
 unfolding propertyCommand
-returns-7 c = rw (at-first propertyCommand _ (c .before .before .before .if1 .left), ne-eqb _ _ (c .match .rest .0 .0 .1), ne-eqb _ _ (c .match .rest .0 .1), ne-eqb _ _ (c .match .rest .1))
+returns-7 c =
+    let at-if1 = c .before .before .before in
+    rw (at-first propertyCommand _ (at-if1 .if1 .left), ne-eqb _ _ (c .match .rest .0 .0 .1), ne-eqb _ _ (c .match .rest .0 .1), ne-eqb _ _ (c .match .rest .1))
 
 pub property-command-at-spec : {M : Type 1} → statement M
 property-command-at-spec =

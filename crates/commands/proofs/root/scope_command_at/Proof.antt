@@ -46,44 +46,98 @@ shared-slice-read-kind : tie.Need-shared-slice-read-kind
 shared-slice-read-kind c = search needs
 
 returns-3 : tie.Need-returns-3
-returns-3 c = rw (at-first (scopeCommand _) _ (c .before .before .before .before .before .before .if1 .left), c .before .before .before .match .keys1, whole _ _ (c .before .before .if2 .left), lt-leb _ _ (c .if3 .taken))
+returns-3 c =
+    let at-if2 = c .before .before in
+    let at-match = at-if2 .before in
+    let at-if1 = at-match .before .before .before in
+    rw (at-first (scopeCommand _) _ (at-if1 .if1 .left), at-match .match .keys1, whole _ _ (at-if2 .if2 .left), lt-leb _ _ (c .if3 .taken))
 
 returns-4 : tie.Need-returns-4
 unfolding scopeCommand
-returns-4 c = rw (at-first (scopeCommand _) _ (c .before .before .before .before .if1 .left), c .before .match .keys2, not-true (c .before .before .before .before .before .before .args .found) (c .if4 .taken))
+returns-4 c =
+    let at-if1 = c .before .before .before .before in
+    let at-entry = at-if1 .before .before in
+    rw (at-first (scopeCommand _) _ (at-if1 .if1 .left), c .before .match .keys2, not-true (at-entry .args .found) (c .if4 .taken))
 
 returns-5 : tie.Need-returns-5
 unfolding scopeCommand
-returns-5 c = rw (at-first (scopeCommand _) _ (c .before .before .before .before .before .if1 .left), c .before .before .match .keys2, not-false (c .before .before .before .before .before .before .before .args .found) (c .before .if4 .left), lt-ltb _ _ (c .if5 .taken))
+returns-5 c =
+    let at-match = c .before .before in
+    let at-if1 = at-match .before .before .before in
+    let at-entry = at-if1 .before .before in
+    rw (at-first (scopeCommand _) _ (at-if1 .if1 .left), at-match .match .keys2, not-false (at-entry .args .found) (c .before .if4 .left), lt-ltb _ _ (c .if5 .taken))
 
 read-place-requires : tie.Need-read-place-requires
 read-place-requires c κs = search needs
 
 returns-6 : tie.Need-returns-6
 unfolding scopeCommand
-returns-6 c = rw (at-first (scopeCommand _) _ (c .before .before .before .before .if1 .left), c .before .match .keys3, not-true (c .before .before .before .before .before .before .args .found) (c .if6 .taken))
+returns-6 c =
+    let at-if1 = c .before .before .before .before in
+    let at-entry = at-if1 .before .before in
+    rw (at-first (scopeCommand _) _ (at-if1 .if1 .left), c .before .match .keys3, not-true (at-entry .args .found) (c .if6 .taken))
 
 returns-7 : tie.Need-returns-7
 unfolding scopeCommand
-returns-7 c = rw (at-first (scopeCommand _) _ (c .before .before .before .before .before .if1 .left), c .before .before .match .keys3, not-false (c .before .before .before .before .before .before .before .args .found) (c .before .if6 .left), lt-ltb _ _ (c .if7 .taken))
+returns-7 c =
+    let at-match = c .before .before in
+    let at-if1 = at-match .before .before .before in
+    let at-entry = at-if1 .before .before in
+    rw (at-first (scopeCommand _) _ (at-if1 .if1 .left), at-match .match .keys3, not-false (at-entry .args .found) (c .before .if6 .left), lt-ltb _ _ (c .if7 .taken))
 
 read-place-requires-2 : tie.Need-read-place-requires-2
 read-place-requires-2 c κs = search needs
 
 returns-8 : tie.Need-returns-8
-returns-8 c = rw (at-first (scopeCommand _) _ (c .before .before .before .before .before .before .if1 .left), c .before .before .before .match .keys1, whole _ _ (c .before .before .if2 .left), le-leb _ _ (c .if3 .left))
+returns-8 c =
+    let at-if2 = c .before .before in
+    let at-match = at-if2 .before in
+    let at-if1 = at-match .before .before .before in
+    rw (at-first (scopeCommand _) _ (at-if1 .if1 .left), at-match .match .keys1, whole _ _ (at-if2 .if2 .left), le-leb _ _ (c .if3 .left))
 
 returns-9 : tie.Need-returns-9
 unfolding scopeCommand
-returns-9 c = rw (at-first (scopeCommand _) _ (c .before .before .before .before .before .before .if1 .left), c .before .before .before .match .keys2, not-false (c .before .before .before .before .before .before .before .before .args .found) (c .before .before .if4 .left), le-ltb _ _ (c .before .if5 .left)) (ap scope.Element (c .read-place .ensures))
+returns-9 c =
+    let at-if4 = c .before .before in
+    let at-match = at-if4 .before in
+    let at-if1 = at-match .before .before .before in
+    let at-entry = at-if1 .before .before in
+    rw (
+      at-first (scopeCommand _) _ (at-if1 .if1 .left),
+      at-match .match .keys2,
+      not-false (at-entry .args .found) (at-if4 .if4 .left),
+      le-ltb _ _
+          (c .before .if5 .left),
+    ) (ap scope.Element (c .read-place .ensures))
 
 returns-10 : tie.Need-returns-10
 unfolding scopeCommand
-returns-10 c = rw (at-first (scopeCommand _) _ (c .before .before .before .before .before .before .if1 .left), c .before .before .before .match .keys3, not-false (c .before .before .before .before .before .before .before .before .args .found) (c .before .before .if6 .left), le-ltb _ _ (c .before .if7 .left)) (ap scope.Fragment (c .read-place2 .ensures))
+returns-10 c =
+    let at-if6 = c .before .before in
+    let at-match = at-if6 .before in
+    let at-if1 = at-match .before .before .before in
+    let at-entry = at-if1 .before .before in
+    rw (
+      at-first (scopeCommand _) _ (at-if1 .if1 .left),
+      at-match .match .keys3,
+      not-false (at-entry .args .found) (at-if6 .if6 .left),
+      le-ltb _ _
+          (c .before .if7 .left),
+    ) (ap scope.Fragment (c .read-place2 .ensures))
 
 returns-11 : tie.Need-returns-11
 unfolding scopeCommand
-returns-11 c = rw (at-first (scopeCommand _) _ (c .before .before .before .if1 .left), ne-eqb _ _ (c .match .rest .0 .0 .1), ne-eqb _ _ (c .match .rest .0 .1), ne-eqb _ _ (c .match .rest .1), and-false (c .before .before .before .before .before .args .found))
+returns-11 c =
+    let at-if1 = c .before .before .before in
+    let at-entry = at-if1 .before .before in
+    rw (
+      at-first (scopeCommand _) _ (at-if1 .if1 .left),
+      ne-eqb _ _ (c .match .rest .0 .0 .1),
+      ne-eqb _ _ (c .match .rest .0 .1),
+      ne-eqb _ _
+          (c .match .rest .1),
+      and-false (at-entry .args .found),
+    )
 
 pub scope-command-at-spec : {M : Type 1} → statement M
 scope-command-at-spec =

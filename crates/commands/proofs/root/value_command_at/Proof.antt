@@ -57,11 +57,17 @@ returns-6 c = rw (at-first valueCommand _ (c .before .before .before .if1 .left)
 
 returns-7 : tie.Need-returns-7
 unfolding valueCommand
-returns-7 c = rw (at-first valueCommand _ (c .before .before .before .before .before .if1 .left), c .before .before .match .keys2, le-ltb _ _ (c .before .if2 .left)) (ap value.Text (c .read-span .ensures))
+returns-7 c =
+    let at-match = c .before .before in
+    let at-if1 = at-match .before .before .before in
+    rw (at-first valueCommand _ (at-if1 .if1 .left), at-match .match .keys2, le-ltb _ _ (c .before .if2 .left)) (ap value.Text (c .read-span .ensures))
 
 returns-8 : tie.Need-returns-8
 unfolding valueCommand
-returns-8 c = rw (at-first valueCommand _ (c .before .before .before .before .before .if1 .left), c .before .before .match .keys3, le-ltb _ _ (c .before .if3 .left)) (ap value.Expression (c .read-u16 .ensures))
+returns-8 c =
+    let at-match = c .before .before in
+    let at-if1 = at-match .before .before .before in
+    rw (at-first valueCommand _ (at-if1 .if1 .left), at-match .match .keys3, le-ltb _ _ (c .before .if3 .left)) (ap value.Expression (c .read-u16 .ensures))
 
 returns-9 : tie.Need-returns-9
 unfolding valueCommand
@@ -69,15 +75,31 @@ returns-9 c = rw (at-first valueCommand _ (c .before .before .before .if1 .left)
 
 returns-10 : tie.Need-returns-10
 unfolding valueCommand
-returns-10 c = rw (at-first valueCommand _ (c .before .before .before .before .before .if1 .left), c .before .before .match .keys5, le-ltb _ _ (c .before .if4 .left)) (ap value.Element (c .read-place .ensures))
+returns-10 c =
+    let at-match = c .before .before in
+    let at-if1 = at-match .before .before .before in
+    rw (at-first valueCommand _ (at-if1 .if1 .left), at-match .match .keys5, le-ltb _ _ (c .before .if4 .left)) (ap value.Element (c .read-place .ensures))
 
 returns-11 : tie.Need-returns-11
 unfolding valueCommand
-returns-11 c = rw (at-first valueCommand _ (c .before .before .before .before .before .if1 .left), c .before .before .match .keys6, le-ltb _ _ (c .before .if5 .left)) (ap value.Fragment (c .read-place2 .ensures))
+returns-11 c =
+    let at-match = c .before .before in
+    let at-if1 = at-match .before .before .before in
+    rw (at-first valueCommand _ (at-if1 .if1 .left), at-match .match .keys6, le-ltb _ _ (c .before .if5 .left)) (ap value.Fragment (c .read-place2 .ensures))
 
 returns-12 : tie.Need-returns-12
 unfolding valueCommand
-returns-12 c = rw (at-first valueCommand _ (c .before .before .before .if1 .left), ne-eqb _ _ (c .match .rest .0 .0 .0 .0 .0 .1), ne-eqb _ _ (c .match .rest .0 .0 .0 .0 .1), ne-eqb _ _ (c .match .rest .0 .0 .0 .1), ne-eqb _ _ (c .match .rest .0 .0 .1), ne-eqb _ _ (c .match .rest .0 .1), ne-eqb _ _ (c .match .rest .1))
+returns-12 c =
+    rw (
+      at-first valueCommand _ (c .before .before .before .if1 .left),
+      ne-eqb _ _ (c .match .rest .0 .0 .0 .0 .0 .1),
+      ne-eqb _ _ (c .match .rest .0 .0 .0 .0 .1),
+      ne-eqb _ _ (c .match .rest .0 .0 .0 .1),
+      ne-eqb _ _ (c .match .rest .0 .0 .1),
+      ne-eqb _ _ (c .match .rest .0 .1),
+      ne-eqb _ _
+          (c .match .rest .1),
+    )
 
 pub value-command-at-spec : {M : Type 1} → statement M
 value-command-at-spec =

@@ -3,7 +3,7 @@ use Rattle.definitions.specs.Calls as call
 use Rattle.definitions.specs.Calls.{bareCode, byteCode, expressionCode}
 use Rattle.commands.proofs.Lengths.{attribute-fits, value-fits, child-fits}
 use Rattle.text.proofs.Lists.{told, tail-part}
-use Rattle.roots.proofs.Behind.{part-length}
+use Rattle.root_check.proofs.Behind.{part-length}
 use Rattle.jsx.specs.Parts.{context}
 use Rattle.parts.proofs.Inversions.{value-wrong, value-cut, attributes-wrong, attributes-cut}
 use Rattle.jsx.proofs.Nesting.{children-wrong, children-cut}
@@ -104,7 +104,7 @@ use Rattle.parts.proofs.jsx_impl.newer.Reads as newer-reads
 use Rattle.parts.proofs.jsx_impl.passed.Reads as passed-reads
 use Rattle.parts.proofs.jsx_impl.skip_name.Reads as skip-name-reads
 use Rattle.parts.proofs.jsx_impl.transform_jsx_text.Reads as transform-jsx-text-reads
-use Rattle.roots.proofs.skip.skip_value.Reads as skip-value-reads
+use Rattle.root_check.proofs.skip.skip_value.Reads as skip-value-reads
 use Rattle.jsx.proofs.jsx_impl.+argument+attribute+attrs+automatic+bare+bare_auto+behind+children+create+fragment+inner+key_of+or_null+plain+transform_jsx+transform_jsx_attribute_value+transform_jsx_child.{
   statement,
 }

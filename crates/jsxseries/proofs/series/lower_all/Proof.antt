@@ -20,7 +20,9 @@ slice-aggregate-buffer : tie.Need-slice-aggregate-buffer Inv-loop μ-loop
 slice-aggregate-buffer c = search needs
 
 loop-holds : tie.Need-loop-holds Inv-loop μ-loop
-loop-holds c = (omega arith, refl, refl, refl, (c .before .before .before .before .before .pre))
+loop-holds c =
+    let at-entry = c .before .before .before .before .before in
+    (omega arith, refl, refl, refl, (at-entry .pre))
 
 read-root-requires : tie.Need-read-root-requires Inv-loop μ-loop
 read-root-requires c κs = (c .before .before .loop) .inv .0
@@ -45,44 +47,60 @@ enum-told c = search needs
 
 same-length : tie.Need-same-length Inv-loop μ-loop
 same-length c =
-    let inv = c .before .before .before .before .before .before .before .before .before .before .before .before .before .before .before .before .before .before .loop .inv in
-    c .before .before .before .before .before .before .before .before .lower-read .kept .1 .1 .1 .0 ∙ inv .1
+    let at-lower-read = c .before .before .before .before .before .before .before .before in
+    let at-loop = at-lower-read .before .before .before .before .before .before .before .before .before .before in
+    let inv = at-loop .loop .inv in
+    at-lower-read .lower-read .kept .1 .1 .1 .0 ∙ inv .1
 
 same-length-2 : tie.Need-same-length-2 Inv-loop μ-loop
 same-length-2 c =
-    let inv = c .before .before .before .before .before .before .before .before .before .before .before .before .before .before .before .before .before .before .loop .inv in
-    c .before .before .before .before .before .before .before .before .lower-read .kept .1 .1 .1 .1 .0 ∙ inv .2
+    let at-lower-read = c .before .before .before .before .before .before .before .before in
+    let at-loop = at-lower-read .before .before .before .before .before .before .before .before .before .before in
+    let inv = at-loop .loop .inv in
+    at-lower-read .lower-read .kept .1 .1 .1 .1 .0 ∙ inv .2
 
 same-length-3 : tie.Need-same-length-3 Inv-loop μ-loop
-same-length-3 c = (c .before .before .before .before .before .before .before .before .before .before .before .before .before .before .before .before .before .before .loop) .inv .3
+same-length-3 c =
+    let at-loop = c .before .before .before .before .before .before .before .before .before .before .before .before .before .before .before .before .before .before in
+    (at-loop .loop) .inv .3
 
 returns : tie.Need-returns Inv-loop μ-loop
 returns c =
-    let read = c .before .before .before .before .before .before .before .before .lower-read in
-    left-fits _ _ _ (read .ensures .1) (c .before .before .before .before .before .before .before .before .before .before .before .before .before .before .before .before .before .before .loop .inv .4)
+    let at-lower-read = c .before .before .before .before .before .before .before .before in
+    let at-loop = at-lower-read .before .before .before .before .before .before .before .before .before .before in
+    let read = at-lower-read .lower-read in
+    left-fits _ _ _ (read .ensures .1) (at-loop .loop .inv .4)
 
 print-answer-requires : tie.Need-print-answer-requires Inv-loop μ-loop
 print-answer-requires c κs = search needs
 
 same-length-4 : tie.Need-same-length-4 Inv-loop μ-loop
 same-length-4 c =
-    let inv = c .before .before .before .before .before .before .before .before .before .before .before .before .before .before .before .before .before .before .before .before .before .before .before .before .loop .inv in
-    c .before .before .before .before .before .before .before .before .before .before .before .before .before .before .lower-read .kept .1 .1 .1 .0 ∙ inv .1
+    let at-lower-read = c .before .before .before .before .before .before .before .before .before .before .before .before .before .before in
+    let at-loop = at-lower-read .before .before .before .before .before .before .before .before .before .before in
+    let inv = at-loop .loop .inv in
+    at-lower-read .lower-read .kept .1 .1 .1 .0 ∙ inv .1
 
 same-length-5 : tie.Need-same-length-5 Inv-loop μ-loop
 same-length-5 c =
-    let inv = c .before .before .before .before .before .before .before .before .before .before .before .before .before .before .before .before .before .before .before .before .before .before .before .before .loop .inv in
-    c .before .before .before .before .before .before .before .before .before .before .before .before .before .before .lower-read .kept .1 .1 .1 .1 .0 ∙ inv .2
+    let at-lower-read = c .before .before .before .before .before .before .before .before .before .before .before .before .before .before in
+    let at-loop = at-lower-read .before .before .before .before .before .before .before .before .before .before in
+    let inv = at-loop .loop .inv in
+    at-lower-read .lower-read .kept .1 .1 .1 .1 .0 ∙ inv .2
 
 same-length-6 : tie.Need-same-length-6 Inv-loop μ-loop
 same-length-6 c =
-    let inv = c .before .before .before .before .before .before .before .before .before .before .before .before .before .before .before .before .before .before .before .before .before .before .before .before .loop .inv in
-    c .before .before .before .before .print-answer .kept .1 .0 ∙ inv .3
+    let at-print-answer = c .before .before .before .before in
+    let at-loop = at-print-answer .before .before .before .before .before .before .before .before .before .before .before .before .before .before .before .before .before .before .before .before in
+    let inv = at-loop .loop .inv in
+    at-print-answer .print-answer .kept .1 .0 ∙ inv .3
 
 returns-2 : tie.Need-returns-2 Inv-loop μ-loop
 returns-2 c =
-    let read = c .before .before .before .before .before .before .before .before .before .before .before .before .before .before .lower-read in
-    left-fits _ _ _ (read .ensures .1) (c .before .before .before .before .before .before .before .before .before .before .before .before .before .before .before .before .before .before .before .before .before .before .before .before .loop .inv .4)
+    let at-lower-read = c .before .before .before .before .before .before .before .before .before .before .before .before .before .before in
+    let at-loop = at-lower-read .before .before .before .before .before .before .before .before .before .before in
+    let read = at-lower-read .lower-read in
+    left-fits _ _ _ (read .ensures .1) (at-loop .loop .inv .4)
 
 sub-turns : tie.Need-sub-turns Inv-loop μ-loop
 sub-turns c = search needs
@@ -92,12 +110,16 @@ loop-less c = search needs
 
 loop-again : tie.Need-loop-again Inv-loop μ-loop
 loop-again c =
-    let inv = (c .before .before .before .before .before .before .before .before .before .before .before .before .before .before .before .before .before .before .before .before .before .before .before .loop) .inv in
-    let read = (c .before .before .before .before .before .before .before .before .before .before .before .before .before .lower-read) in (
-      omega (arith, inv .0, (c .before .before .before .before .before .before .before .before .before .before .before .before .before .before .before .before .before .before .before .before .read-root) .kept .1 .0),
+    let at-print-answer = c .before .before .before in
+    let at-lower-read = at-print-answer .before .before .before .before .before .before .before .before .before .before in
+    let at-read-root = at-lower-read .before .before .before .before .before .before .before in
+    let at-loop = at-read-root .before .before .before in
+    let inv = at-loop .loop .inv in
+    let read = (at-lower-read .lower-read) in (
+      omega (arith, inv .0, at-read-root .read-root .kept .1 .0),
       read .kept .1 .1 .1 .0 ∙ inv .1,
       read .kept .1 .1 .1 .1 .0 ∙ inv .2,
-      (c .before .before .before .print-answer) .kept .1 .0 ∙ inv .3,
+      (at-print-answer .print-answer) .kept .1 .0 ∙ inv .3,
       left-fits _ _ _ (read .ensures .1) (inv .4),
     )
 

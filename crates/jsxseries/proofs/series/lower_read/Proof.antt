@@ -6,9 +6,10 @@ use Rattle.jsxseries.proofs.series.lower_read.Tie as tie
 
 returns : tie.Need-returns
 returns c =
-    let a = (c .before .before .before .before .before .args) in
+    let at-entry = c .before .before .before .before .before in
+    let a = at-entry .args in
     let w = world (a .state) (a .calls .now) (a .notices .now) in
-    first-unread (a .text .now) w (a .read .now) ((c .if1) .taken)
+    first-unread (a .text .now) w (a .read .now) (c .if1 .taken)
 
 read-u16-requires : tie.Need-read-u16-requires
 read-u16-requires c κs = search needs
@@ -21,9 +22,11 @@ sub-if2 c = search needs
 
 returns-2 : tie.Need-returns-2
 returns-2 c =
-    let a = (c .before .before .before .before .before .before .before .args) in
+    let at-if1 = c .before .before in
+    let at-entry = at-if1 .before .before .before .before .before in
+    let a = at-entry .args in
     let w = world (a .state) (a .calls .now) (a .notices .now) in
-    first-cut (a .text .now) w (a .read .now) ((c .before .before .if1) .left) _ ((c .before .read-u16) .ensures) ((c .if2) .taken)
+    first-cut (a .text .now) w (a .read .now) (at-if1 .if1 .left) _ (c .before .read-u16 .ensures) (c .if2 .taken)
 
 add-end : tie.Need-add-end
 add-end c = search needs
@@ -48,10 +51,13 @@ same-length-2 c = search needs
 
 returns-3 : tie.Need-returns-3
 returns-3 c =
-    let a = (c .before .before .before .before .before .before .before .before .before .before .before .before .before .before .before .before .args) in
+    let at-lower-root = c .before .before .before .before .before in
+    let at-entry = at-lower-root .before .before .before .before in
+    let at-entry′ = at-entry .before .before .before .before .before .before .before in
+    let a = at-entry′ .args in
     let w = world (a .state) (a .calls .now) (a .notices .now) in
-    let root = (c .before .before .before .before .before .lower-root) in
-    let tests = c .before .before .before .before .before .before .before .before .before in
+    let root = at-lower-root .lower-root in
+    let tests = at-entry in
     let size = tests .before .read-u16 .ensures in
     first-root (a .text .now) w (a .read .now) (tests .before .before .if1 .left) _ size (tests .if2 .left) (root .ensures .0) (root .ensures .1 .0) (root .ensures .1 .1)
 

@@ -14,10 +14,20 @@ enum-told : tie.Need-enum-told
 enum-told c = search needs
 
 run-root-requires : tie.Need-run-root-requires
-run-root-requires c κs = (job-fresh ((c .before .before .before .before .before .before .before .before .before .before .before .before .before .args) .job .now) ((c .before .before .before .before .before .before .before .before .before .before .before .before .before .args) .text .now) ((c .before .before .before .before .before .before .before .before .before .before .before .before .before .args) .root .now) _ ((c .before .before .before .before .before .before .open-job) .ensures) ((c .before .before .before .enum-told) .given .1), (c .before .before .before .before .before .before .before .before .before .before .before .before .before .pre))
+run-root-requires c κs =
+    let at-enum-told = c .before .before .before in
+    let at-open-job = at-enum-told .before .before .before in
+    let at-entry = at-open-job .before .before .before .before .before .before .before in (
+      job-fresh (at-entry .args .job .now) (at-entry .args .text .now) (at-entry .args .root .now) _ (at-open-job .open-job .ensures)
+          (at-enum-told .enum-told .given .1),
+      (at-entry .pre),
+    )
 
 returns : tie.Need-returns
-returns c = job-refused ((c .before .before .before .before .before .before .before .before .before .before .before .args) .job .now) ((c .before .before .before .before .before .before .before .before .before .before .before .args) .text .now) ((c .before .before .before .before .before .before .before .before .before .before .before .args) .root .now) _ ((c .before .before .before .before .open-job) .ensures) _ _ _ _ ((c .before .answer) .given .1)
+returns c =
+    let at-open-job = c .before .before .before .before in
+    let at-entry = at-open-job .before .before .before .before .before .before .before in
+    job-refused (at-entry .args .job .now) (at-entry .args .text .now) (at-entry .args .root .now) _ (at-open-job .open-job .ensures) _ _ _ _ (c .before .answer .given .1)
 
 same-length : tie.Need-same-length
 same-length c = search needs
@@ -29,7 +39,13 @@ same-length-3 : tie.Need-same-length-3
 same-length-3 c = search needs
 
 returns-2 : tie.Need-returns-2
-returns-2 c = job-opened ((c .before .before .before .before .before .before .before .before .before .before .before .before .before .before .before .before .before .before .before .before .args) .job .now) ((c .before .before .before .before .before .before .before .before .before .before .before .before .before .before .before .before .before .before .before .before .args) .text .now) ((c .before .before .before .before .before .before .before .before .before .before .before .before .before .before .before .before .before .before .before .before .args) .root .now) _ ((c .before .before .before .before .before .before .before .before .before .before .before .before .before .open-job) .ensures) _ _ _ _ ((c .before .before .before .before .before .before .before .before .before .before .enum-told) .given .1) ((c .before .before .before .before .before .before .run-root) .ensures)
+returns-2 c =
+    let at-run-root = c .before .before .before .before .before .before in
+    let at-enum-told = at-run-root .before .before .before .before in
+    let at-open-job = at-enum-told .before .before .before in
+    let at-entry = at-open-job .before .before .before .before .before .before .before in
+    job-opened (at-entry .args .job .now) (at-entry .args .text .now) (at-entry .args .root .now) _ (at-open-job .open-job .ensures) _ _ _ _
+    (at-enum-told .enum-told .given .1) (at-run-root .run-root .ensures)
 
 pub run-job-spec : {M : Type 1} → statement M
 run-job-spec =

@@ -29,7 +29,12 @@ same-length-2 : tie.Need-same-length-2
 same-length-2 c = search needs
 
 returns : tie.Need-returns
-returns c = root-refused ((c .before .before .before .before .before .before .before .before .before .before .before .before .before .before .before .before .args) .text .now) ((c .before .before .before .before .before .before .before .before .before .before .before .before .before .before .before .before .args) .state) ((c .before .before .before .before .before .before .before .before .before .before .before .before .before .before .before .before .args) .root .now) ((c .before .before .before .before .before .before .before .before .before .before .before .before .before .before .before .before .args) .calls .now) ((c .before .before .before .before .before .before .before .before .before .before .before .before .before .before .before .before .args) .notices .now) ((c .before .before .before .before .before .before .before .before .before .before .before .before .before .before .before .before .args) .records .now) ((c .before .before .before .before .before .before .before .before .before .before .before .before .before .before .before .before .pre) .0) ((c .before .before .before .before .before .before .before .before .before .before .before .before .before .before .before .before .pre) .1) _ _ _ _ _ ((c .before .before .before .before .before .before .before .before .lower-root) .ensures .0) ((c .before .answer) .given .1)
+returns c =
+    let at-lower-root = c .before .before .before .before .before .before .before .before in
+    let at-entry = at-lower-root .before .before .before .before .before .before .before .before in
+    root-refused (at-entry .args .text .now) (at-entry .args .state) (at-entry .args .root .now) (at-entry .args .calls .now)
+    (at-entry .args .notices .now) (at-entry .args .records .now) (at-entry .pre .0) (at-entry .pre .1) _ _ _ _ _
+    (at-lower-root .lower-root .ensures .0) (c .before .answer .given .1)
 
 same-length-3 : tie.Need-same-length-3
 same-length-3 c = search needs
@@ -41,7 +46,15 @@ same-length-5 : tie.Need-same-length-5
 same-length-5 c = search needs
 
 returns-2 : tie.Need-returns-2
-returns-2 c = records-refused ((c .before .before .before .before .before .before .before .before .before .before .before .before .before .before .before .before .before .before .before .before .before .before .args) .text .now) ((c .before .before .before .before .before .before .before .before .before .before .before .before .before .before .before .before .before .before .before .before .before .before .args) .state) ((c .before .before .before .before .before .before .before .before .before .before .before .before .before .before .before .before .before .before .before .before .before .before .args) .root .now) ((c .before .before .before .before .before .before .before .before .before .before .before .before .before .before .before .before .before .before .before .before .before .before .args) .calls .now) ((c .before .before .before .before .before .before .before .before .before .before .before .before .before .before .before .before .before .before .before .before .before .before .args) .notices .now) ((c .before .before .before .before .before .before .before .before .before .before .before .before .before .before .before .before .before .before .before .before .before .before .args) .records .now) ((c .before .before .before .before .before .before .before .before .before .before .before .before .before .before .before .before .before .before .before .before .before .before .pre) .0) ((c .before .before .before .before .before .before .before .before .before .before .before .before .before .before .before .before .before .before .before .before .before .before .pre) .1) _ _ ((c .before .before .before .before .before .before .before .before .before .before .before .before .before .before .lower-root) .ensures .0) ((c .before .before .before .before .before .before .before .enum-told) .given .1) ((c .before .before .before .before .before .write-records) .ensures .0) _ _ _ _ ((c .before .refusal) .given .1)
+returns-2 c =
+    let at-write-records = c .before .before .before .before .before in
+    let at-enum-told = at-write-records .before .before in
+    let at-lower-root = at-enum-told .before .before .before .before .before .before .before in
+    let at-entry = at-lower-root .before .before .before .before .before .before .before .before in
+    records-refused (at-entry .args .text .now) (at-entry .args .state) (at-entry .args .root .now) (at-entry .args .calls .now)
+    (at-entry .args .notices .now) (at-entry .args .records .now) (at-entry .pre .0) (at-entry .pre .1) _ _
+    (at-lower-root .lower-root .ensures .0) (at-enum-told .enum-told .given .1) (at-write-records .write-records .ensures .0) _ _ _ _
+    (c .before .refusal .given .1)
 
 same-length-6 : tie.Need-same-length-6
 same-length-6 c = search needs
@@ -53,7 +66,16 @@ same-length-8 : tie.Need-same-length-8
 same-length-8 c = search needs
 
 returns-3 : tie.Need-returns-3
-returns-3 c = all-written ((c .before .before .before .before .before .before .before .before .before .before .before .before .before .before .before .before .before .before .before .before .before .before .args) .text .now) ((c .before .before .before .before .before .before .before .before .before .before .before .before .before .before .before .before .before .before .before .before .before .before .args) .state) ((c .before .before .before .before .before .before .before .before .before .before .before .before .before .before .before .before .before .before .before .before .before .before .args) .root .now) ((c .before .before .before .before .before .before .before .before .before .before .before .before .before .before .before .before .before .before .before .before .before .before .args) .calls .now) ((c .before .before .before .before .before .before .before .before .before .before .before .before .before .before .before .before .before .before .before .before .before .before .args) .notices .now) ((c .before .before .before .before .before .before .before .before .before .before .before .before .before .before .before .before .before .before .before .before .before .before .args) .records .now) ((c .before .before .before .before .before .before .before .before .before .before .before .before .before .before .before .before .before .before .before .before .before .before .pre) .0) ((c .before .before .before .before .before .before .before .before .before .before .before .before .before .before .before .before .before .before .before .before .before .before .pre) .1) _ _ ((c .before .before .before .before .before .before .before .before .before .before .before .before .before .before .lower-root) .ensures .0) ((c .before .before .before .before .before .before .before .enum-told) .given .1) ((c .before .before .before .before .before .write-records) .ensures .0) _ _ _ _ ((c .before .n) .given .1) ((c .before .before .before .before .before .before .before .before .before .before .before .before .before .before .lower-root) .ensures .1 .0) ((c .before .before .before .before .before .before .before .before .before .before .before .before .before .before .lower-root) .ensures .1 .1) ((c .before .before .before .before .before .write-records) .ensures .1)
+returns-3 c =
+    let at-write-records = c .before .before .before .before .before in
+    let at-enum-told = at-write-records .before .before in
+    let at-lower-root = at-enum-told .before .before .before .before .before .before .before in
+    let at-entry = at-lower-root .before .before .before .before .before .before .before .before in
+    all-written (at-entry .args .text .now) (at-entry .args .state) (at-entry .args .root .now) (at-entry .args .calls .now)
+    (at-entry .args .notices .now) (at-entry .args .records .now) (at-entry .pre .0) (at-entry .pre .1) _ _
+    (at-lower-root .lower-root .ensures .0) (at-enum-told .enum-told .given .1) (at-write-records .write-records .ensures .0) _ _ _ _
+    (c .before .n .given .1) (at-lower-root .lower-root .ensures .1 .0) (at-lower-root .lower-root .ensures .1 .1)
+    (at-write-records .write-records .ensures .1)
 
 pub run-root-spec : {M : Type 1} → statement M
 run-root-spec =

@@ -50,8 +50,15 @@ same-length-2 c = (c .before .before .before .before .loop) .inv .1
 
 returns : tie.Need-returns Inv-loop μ-loop
 returns c =
-    let e = row-end ((c .before .before .before .before .loop) .inv .2) ((c .before .before .before .next-root) .ensures .0) ((c .before .enum-told) .given .1) in
-    sym (e ∙ λ ι. record { answer = sym ((c .list-end) .ensures) ι; world = world ((c .before .before .before .before .loop) .last) ((c .before .before .before .before .loop) .calls) ((c .before .before .before .before .loop) .notices); taken = (c .before .before .before .before .loop) .taken })
+    let at-next-root = c .before .before .before in
+    let at-loop = at-next-root .before in
+    let e = row-end (at-loop .loop .inv .2) (at-next-root .next-root .ensures .0) (c .before .enum-told .given .1) in
+    sym (e ∙ λ ι.
+    record {
+      answer = sym (c .list-end .ensures) ι;
+      world = world (at-loop .loop .last) (at-loop .loop .calls) (at-loop .loop .notices);
+      taken = at-loop .loop .taken;
+    })
 
 enum-known-start : tie.Need-enum-known-start Inv-loop μ-loop
 enum-known-start c = search needs
@@ -72,41 +79,63 @@ part-lower-tested-end : tie.Need-part-lower-tested-end Inv-loop μ-loop
 part-lower-tested-end c = omega (arith, standing c .2)
 
 lower-tested-requires : tie.Need-lower-tested-requires Inv-loop μ-loop
-lower-tested-requires c κs = (root-short _ _ _ _ (standing (c .before .before .before)), (c .before .before .before .before .before .before .before .loop) .inv .3)
+lower-tested-requires c κs =
+    let at-standing = c .before .before .before in
+    let at-loop = at-standing .before .before .before .before in
+    (root-short _ _ _ _ (standing at-standing), at-loop .loop .inv .3)
 
 enum-known-answer : tie.Need-enum-known-answer Inv-loop μ-loop
 enum-known-answer c = search needs
 
 same-length-3 : tie.Need-same-length-3 Inv-loop μ-loop
-same-length-3 c = (c .before .before .before .before .before .before .before .before .lower-tested) .kept .1 .1 .1 .0 ∙ (c .before .before .before .before .before .before .before .before .before .before .before .before .before .before .before .before .loop) .inv .0
+same-length-3 c =
+    let at-lower-tested = c .before .before .before .before .before .before .before .before in
+    let at-loop = at-lower-tested .before .before .before .before .before .before .before .before in
+    (at-lower-tested .lower-tested) .kept .1 .1 .1 .0 ∙ at-loop .loop .inv .0
 
 same-length-4 : tie.Need-same-length-4 Inv-loop μ-loop
-same-length-4 c = (c .before .before .before .before .before .before .before .before .lower-tested) .kept .1 .1 .1 .1 .0 ∙ (c .before .before .before .before .before .before .before .before .before .before .before .before .before .before .before .before .loop) .inv .1
+same-length-4 c =
+    let at-lower-tested = c .before .before .before .before .before .before .before .before in
+    let at-loop = at-lower-tested .before .before .before .before .before .before .before .before in
+    (at-lower-tested .lower-tested) .kept .1 .1 .1 .1 .0 ∙ at-loop .loop .inv .1
 
 returns-2 : tie.Need-returns-2 Inv-loop μ-loop
 returns-2 c =
-    let o = (c .before .before .before .before .before .before .before .before .lower-tested) .ensures in
+    let at-lower-tested = c .before .before .before .before .before .before .before .before in
+    let at-start = at-lower-tested .before .before .before .before .before in
+    let at-next-root = at-start .before .before in
+    let at-loop = at-next-root .before in
+    let o = at-lower-tested .lower-tested .ensures in
     sym
-    (row-refused ((c .before .before .before .before .before .before .before .before .before .before .before .before .before .before .before .before .loop) .inv .2) ((c .before .before .before .before .before .before .before .before .before .before .before .before .before .before .before .next-root) .ensures .0) ((c .before .before .before .before .before .before .before .before .before .before .before .before .before .start) .given .1) ((c .before .before .before .before .before .before .before .before .before .before .before .before .before .before .before .next-root) .ensures .1)
-    (told (ap (λ (t : Stepped). t .answer) (o .answered)) ((c .before .answer) .given .1)) (one-more _ _ _ (o .answered) (o .called) (o .noticed)))
+    (row-refused (at-loop .loop .inv .2) (at-next-root .next-root .ensures .0) (at-start .start .given .1) (at-next-root .next-root .ensures .1)
+    (told (ap (λ (t : Stepped). t .answer) (o .answered)) (c .before .answer .given .1)) (one-more _ _ _ (o .answered) (o .called) (o .noticed)))
 
 enum-told-2 : tie.Need-enum-told-2 Inv-loop μ-loop
 enum-told-2 c = search needs
 
 add-taken : tie.Need-add-taken Inv-loop μ-loop
-add-taken c = omega (arith, (c .before .before .before .before .before .before .before .before .before .before .before .before .before .before .before .loop) .inv .2 .counted, standing (c .before .before .before .before .before .before .before .before .before .before .before))
+add-taken c =
+    let at-standing = c .before .before .before .before .before .before .before .before .before .before .before in
+    let at-loop = at-standing .before .before .before .before in
+    omega (arith, at-loop .loop .inv .2 .counted, standing at-standing)
 
 loop-less : tie.Need-loop-less Inv-loop μ-loop
-loop-less c = omega (arith, standing (c .before .before .before .before .before .before .before .before .before .before .before))
+loop-less c =
+    let at-standing = c .before .before .before .before .before .before .before .before .before .before .before in
+    omega (arith, standing at-standing)
 
 loop-again : tie.Need-loop-again Inv-loop μ-loop
 loop-again c =
-    let o = (c .before .before .before .before .before .before .before .lower-tested) .ensures in (
-      (c .before .before .before .before .before .before .before .lower-tested) .kept .1 .1 .1 .0 ∙ (c .before .before .before .before .before .before .before .before .before .before .before .before .before .before .before .loop) .inv .0,
-      (c .before .before .before .before .before .before .before .lower-tested) .kept .1 .1 .1 .1 .0 ∙ (c .before .before .before .before .before .before .before .before .before .before .before .before .before .before .before .loop) .inv .1,
-      row-root ((c .before .before .before .before .before .before .before .before .before .before .before .before .before .before .before .loop) .inv .2) ((c .before .before .before .before .before .before .before .before .before .before .before .before .before .before .next-root) .ensures .0) ((c .before .before .before .before .before .before .before .before .before .before .before .before .start) .given .1) ((c .before .before .before .before .before .before .before .before .before .before .before .before .before .before .next-root) .ensures .1)
-          (told (ap (λ (t : Stepped). t .answer) (o .answered)) ((c .enum-told2) .given .1)) (one-more _ _ _ (o .answered) (o .called) (o .noticed)),
-      going-after _ _ _ _ _ o ((c .enum-told2) .given .1),
+    let at-lower-tested = c .before .before .before .before .before .before .before in
+    let at-start = at-lower-tested .before .before .before .before .before in
+    let at-next-root = at-start .before .before in
+    let at-loop = at-next-root .before in
+    let o = at-lower-tested .lower-tested .ensures in (
+      (at-lower-tested .lower-tested) .kept .1 .1 .1 .0 ∙ at-loop .loop .inv .0,
+      (at-lower-tested .lower-tested) .kept .1 .1 .1 .1 .0 ∙ at-loop .loop .inv .1,
+      row-root (at-loop .loop .inv .2) (at-next-root .next-root .ensures .0) (at-start .start .given .1) (at-next-root .next-root .ensures .1)
+          (told (ap (λ (t : Stepped). t .answer) (o .answered)) (c .enum-told2 .given .1)) (one-more _ _ _ (o .answered) (o .called) (o .noticed)),
+      going-after _ _ _ _ _ o (c .enum-told2 .given .1),
     )
 
 pub lower-in-turn-spec : {M : Type 1} → statement M

@@ -11,8 +11,9 @@ list-refused-requires c κs = search needs
 
 returns : tie.Need-returns
 returns c =
-    let a = (c .before .before .before .before .before .before .args) in
-    run-is _ _ _ _ _ (list-long (now (a .text)) (a .state) (now (a .calls)) (now (a .notices)) (now (a .roots)) ((c .before .if1) .taken) ((c .list-refused) .ensures))
+    let at-entry = c .before .before .before .before .before .before in
+    let a = at-entry .args in
+    run-is _ _ _ _ _ (list-long (now (a .text)) (a .state) (now (a .calls)) (now (a .notices)) (now (a .roots)) (c .before .if1 .taken) (c .list-refused .ensures))
 
 first-ill-formed-requires : tie.Need-first-ill-formed-requires
 first-ill-formed-requires c κs = search needs
@@ -26,15 +27,23 @@ list-refused-requires-2 c κs = search needs
 enum-told : tie.Need-enum-told
 enum-told c = search needs
 
-lower-if-unforged-requires : tie.Need-lower-if-unforged-requires
-lower-if-unforged-requires c κs = ((c .before .before .before .before .before .if1) .left, told ((c .before .before .before .before .first-ill-formed) .ensures) ((c .before .before .enum-told) .given .1))
+lower-list-if-unforged-requires : tie.Need-lower-list-if-unforged-requires
+lower-list-if-unforged-requires c κs =
+    let at-enum-told = c .before .before in
+    let at-first-ill-formed = at-enum-told .before .before in
+    let at-if1 = at-first-ill-formed .before in
+    (at-if1 .if1 .left, told (at-first-ill-formed .first-ill-formed .ensures) (at-enum-told .enum-told .given .1))
 
 returns-2 : tie.Need-returns-2
 returns-2 c =
-    let a = (c .before .before .before .before .before .before .before .before .before .before .args) in
+    let at-place = c .before .before in
+    let at-first-ill-formed = at-place .before .before in
+    let at-if1 = at-first-ill-formed .before in
+    let at-entry = at-if1 .before .before .before .before .before in
+    let a = at-entry .args in
     run-is _ _ _ _ _
-    (list-ill (now (a .text)) (a .state) (now (a .calls)) (now (a .notices)) (now (a .roots)) ((c .before .before .place) .given .0 .0) ((c .before .before .before .before .before .if1) .left)
-    (told ((c .before .before .before .before .first-ill-formed) .ensures) ((c .before .before .place) .given .1)) ((c .list-refused2) .ensures))
+    (list-ill (now (a .text)) (a .state) (now (a .calls)) (now (a .notices)) (now (a .roots)) (at-place .place .given .0 .0) (at-if1 .if1 .left)
+    (told (at-first-ill-formed .first-ill-formed .ensures) (at-place .place .given .1)) (c .list-refused2 .ensures))
 
 same-length : tie.Need-same-length
 same-length c = search needs
@@ -43,7 +52,7 @@ same-length-2 : tie.Need-same-length-2
 same-length-2 c = search needs
 
 returns-3 : tie.Need-returns-3
-returns-3 c = run-is _ _ _ _ _ ((c .before .before .before .before .lower-if-unforged) .ensures)
+returns-3 c = run-is _ _ _ _ _ (c .before .before .before .before .lower-list-if-unforged .ensures)
 
 pub lower-list-spec : {M : Type 1} → statement M
 lower-list-spec =
@@ -55,7 +64,7 @@ lower-list-spec =
     enum-known-place
     list-refused-requires-2
     enum-told
-    lower-if-unforged-requires
+    lower-list-if-unforged-requires
     returns-2
     same-length
     same-length-2

@@ -15,7 +15,7 @@ read-u64-requires : tie.Need-read-u64-requires
 read-u64-requires c κs = search needs
 
 returns : tie.Need-returns
-returns c = rw ((c .before .root-of) .ensures, (c .read-u64) .ensures)
+returns c = rw (c .before .root-of .ensures, c .read-u64 .ensures)
 
 pub form-at-spec : {M : Type 1} → statement M
 form-at-spec =

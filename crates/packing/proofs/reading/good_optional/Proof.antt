@@ -15,7 +15,7 @@ optional-good-requires : tie.Need-optional-good-requires
 optional-good-requires c κs = search needs
 
 returns : tie.Need-returns
-returns c = rw ((c .optional-good) .ensures, (c .before .read-span) .ensures)
+returns c = rw (c .optional-good .ensures, c .before .read-span .ensures)
 
 pub good-optional-spec : {M : Type 1} → statement M
 good-optional-spec =

@@ -20,7 +20,14 @@ good-optional-requires-5 c κs = search needs
 
 returns : tie.Need-returns
 unfolding goodOptions
-returns c = rw ((c .before .before .before .before .good-optional) .ensures, (c .before .before .before .good-optional2) .ensures, (c .before .before .good-optional3) .ensures, (c .before .good-optional4) .ensures, (c .good-optional5) .ensures)
+returns c =
+    rw (
+      c .before .before .before .before .good-optional .ensures,
+      c .before .before .before .good-optional2 .ensures,
+      c .before .before .good-optional3 .ensures,
+      c .before .good-optional4 .ensures,
+      c .good-optional5 .ensures,
+    )
 
 pub good-options-spec : {M : Type 1} → statement M
 good-options-spec =

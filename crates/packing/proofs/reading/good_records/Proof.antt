@@ -29,7 +29,23 @@ good-record-requires-8 c κs = search needs
 
 returns : tie.Need-returns
 unfolding goodRecords
-returns c = rw ((c .before .before .before .before .before .before .before .good-record) .ensures, (c .before .before .before .before .before .before .good-record2) .ensures, (c .before .before .before .before .before .good-record3) .ensures, (c .before .before .before .before .good-record4) .ensures, (c .before .before .before .good-record5) .ensures, (c .before .before .good-record6) .ensures, (c .before .good-record7) .ensures, (c .good-record8) .ensures)
+returns c =
+    let at-good-record6 = c .before .before in
+    let at-good-record5 = at-good-record6 .before in
+    let at-good-record4 = at-good-record5 .before in
+    let at-good-record3 = at-good-record4 .before in
+    let at-good-record2 = at-good-record3 .before in
+    let at-good-record = at-good-record2 .before in
+    rw (
+      at-good-record .good-record .ensures,
+      at-good-record2 .good-record2 .ensures,
+      at-good-record3 .good-record3 .ensures,
+      at-good-record4 .good-record4 .ensures,
+      at-good-record5 .good-record5 .ensures,
+      at-good-record6 .good-record6 .ensures,
+      c .before .good-record7 .ensures,
+      c .good-record8 .ensures,
+    )
 
 pub good-records-spec : {M : Type 1} → statement M
 good-records-spec =

@@ -14,7 +14,7 @@ good-records-requires c κs = search needs
 
 returns : tie.Need-returns
 unfolding good
-returns c = rw ((c .before .before .good-options) .ensures, (c .before .good-settings) .ensures, (c .good-records) .ensures)
+returns c = rw (c .before .before .good-options .ensures, c .before .good-settings .ensures, c .good-records .ensures)
 
 pub good-state-spec : {M : Type 1} → statement M
 good-state-spec =

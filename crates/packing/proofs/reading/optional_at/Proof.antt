@@ -15,7 +15,7 @@ optional-of-requires : tie.Need-optional-of-requires
 optional-of-requires c κs = search needs
 
 returns : tie.Need-returns
-returns c = rw ((c .optional-of) .ensures, (c .before .read-span) .ensures)
+returns c = rw (c .optional-of .ensures, c .before .read-span .ensures)
 
 pub optional-at-spec : {M : Type 1} → statement M
 optional-at-spec =

@@ -27,7 +27,7 @@ shared-slice-read-t5 : tie.Need-shared-slice-read-t5
 shared-slice-read-t5 c = search needs
 
 returns : tie.Need-returns
-returns c = rw ((c .before .import-of) .ensures)
+returns c = rw (c .before .import-of .ensures)
 
 pub record-at-spec : {M : Type 1} → statement M
 record-at-spec =

@@ -5,19 +5,19 @@ use Rattle.packing.proofs.reading.root_of.Tie as tie
 
 returns : tie.Need-returns
 unfolding rootOf
-returns c = rw (eq-eqb _ _ ((c .if1) .taken))
+returns c = rw (eq-eqb _ _ (c .if1 .taken))
 
 returns-2 : tie.Need-returns-2
 unfolding rootOf
-returns-2 c = rw (ne-eqb _ _ ((c .before .if1) .left), eq-eqb _ _ ((c .if2) .taken))
+returns-2 c = rw (ne-eqb _ _ (c .before .if1 .left), eq-eqb _ _ (c .if2 .taken))
 
 returns-3 : tie.Need-returns-3
 unfolding rootOf
-returns-3 c = rw (ne-eqb _ _ ((c .before .before .if1) .left), ne-eqb _ _ ((c .before .if2) .left), eq-eqb _ _ ((c .if3) .taken))
+returns-3 c = rw (ne-eqb _ _ (c .before .before .if1 .left), ne-eqb _ _ (c .before .if2 .left), eq-eqb _ _ (c .if3 .taken))
 
 returns-4 : tie.Need-returns-4
 unfolding rootOf
-returns-4 c = rw (ne-eqb _ _ ((c .before .before .if1) .left), ne-eqb _ _ ((c .before .if2) .left), ne-eqb _ _ ((c .if3) .left))
+returns-4 c = rw (ne-eqb _ _ (c .before .before .if1 .left), ne-eqb _ _ (c .before .if2 .left), ne-eqb _ _ (c .if3 .left))
 
 pub root-of-spec : {M : Type 1} → statement M
 root-of-spec = tie.close (tie.spec returns returns-2 returns-3 returns-4)

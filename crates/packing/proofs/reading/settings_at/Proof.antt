@@ -23,7 +23,11 @@ shared-slice-read-t7 c = search needs
 
 returns : tie.Need-returns
 unfolding settingsAt
-returns c = rw ((c .before .before .before .before .before .options-at) .ensures, (c .before .before .before .mode-of) .ensures, (c .before .before .form-at) .ensures, (c .before .form-at2) .ensures)
+returns c =
+    let at-form-at = c .before .before in
+    let at-mode-of = at-form-at .before in
+    let at-options-at = at-mode-of .before .before in
+    rw (at-options-at .options-at .ensures, at-mode-of .mode-of .ensures, at-form-at .form-at .ensures, c .before .form-at2 .ensures)
 
 pub settings-at-spec : {M : Type 1} → statement M
 settings-at-spec =

@@ -38,11 +38,37 @@ read-u64-requires-2 : tie.Need-read-u64-requires-2
 read-u64-requires-2 c κs = search needs
 
 read-u64-requires-3 : tie.Need-read-u64-requires-3
-read-u64-requires-3 c κs = omega (arith, (c .before .before .before .before .before .before .before .before .before .before .before .before .pre))
+read-u64-requires-3 c κs =
+    let at-entry = c .before .before .before .before .before .before .before .before .before .before .before .before in
+    omega (arith, (at-entry .pre))
 
 returns : tie.Need-returns
 unfolding stateAt
-returns c = rw ((c .before .before .before .before .before .before .before .before .before .before .before .settings-at) .ensures, (c .before .before .before .before .before .before .before .before .before .before .record-at) .ensures, (c .before .before .before .before .before .before .before .before .before .record-at2) .ensures, (c .before .before .before .before .before .before .before .before .record-at3) .ensures, (c .before .before .before .before .before .before .before .record-at4) .ensures, (c .before .before .before .before .before .before .record-at5) .ensures, (c .before .before .before .before .before .record-at6) .ensures, (c .before .before .before .before .record-at7) .ensures, (c .before .before .before .record-at8) .ensures, (c .before .before .read-u64) .ensures, (c .before .read-u642) .ensures, (c .read-u643) .ensures)
+returns c =
+    let at-read-u64 = c .before .before in
+    let at-record-at8 = at-read-u64 .before in
+    let at-record-at7 = at-record-at8 .before in
+    let at-record-at6 = at-record-at7 .before in
+    let at-record-at5 = at-record-at6 .before in
+    let at-record-at4 = at-record-at5 .before in
+    let at-record-at3 = at-record-at4 .before in
+    let at-record-at2 = at-record-at3 .before in
+    let at-record-at = at-record-at2 .before in
+    let at-settings-at = at-record-at .before in
+    rw (
+      at-settings-at .settings-at .ensures,
+      at-record-at .record-at .ensures,
+      at-record-at2 .record-at2 .ensures,
+      at-record-at3 .record-at3 .ensures,
+      at-record-at4 .record-at4 .ensures,
+      at-record-at5 .record-at5 .ensures,
+      at-record-at6 .record-at6 .ensures,
+      at-record-at7 .record-at7 .ensures,
+      at-record-at8 .record-at8 .ensures,
+      at-read-u64 .read-u64 .ensures,
+      c .before .read-u642 .ensures,
+      c .read-u643 .ensures,
+    )
 
 pub state-at-spec : {M : Type 1} → statement M
 state-at-spec =

@@ -10,7 +10,7 @@ no-state-requires c κs = search needs
 
 returns : tie.Need-returns
 unfolding unpacked unpackedAnswer
-returns c = rw ((c .no-state) .ensures, ne-eqb _ _ ((c .before .if1) .taken))
+returns c = rw (c .no-state .ensures, ne-eqb _ _ (c .before .if1 .taken))
 
 good-state-requires : tie.Need-good-state-requires
 good-state-requires c κs = search needs
@@ -20,14 +20,20 @@ state-at-requires c κs = search needs
 
 returns-2 : tie.Need-returns-2
 unfolding unpacked unpackedAnswer
-returns-2 c = rw ((c .state-at) .ensures, eq-eqb _ _ ((c .before .before .before .if1) .left), told ((c .before .before .good-state) .ensures) ((c .before .if2) .taken))
+returns-2 c =
+    let at-good-state = c .before .before in
+    let at-if1 = at-good-state .before in
+    rw (c .state-at .ensures, eq-eqb _ _ (at-if1 .if1 .left), told (at-good-state .good-state .ensures) (c .before .if2 .taken))
 
 no-state-requires-2 : tie.Need-no-state-requires-2
 no-state-requires-2 c κs = search needs
 
 returns-3 : tie.Need-returns-3
 unfolding unpacked unpackedAnswer
-returns-3 c = rw ((c .no-state2) .ensures, eq-eqb _ _ ((c .before .before .before .if1) .left), told ((c .before .before .good-state) .ensures) ((c .before .if2) .left))
+returns-3 c =
+    let at-good-state = c .before .before in
+    let at-if1 = at-good-state .before in
+    rw (c .no-state2 .ensures, eq-eqb _ _ (at-if1 .if1 .left), told (at-good-state .good-state .ensures) (c .before .if2 .left))
 
 pub unpack-spec : {M : Type 1} → statement M
 unpack-spec =

@@ -72,7 +72,23 @@ add-result-7 c = omega arith
 
 returns : tie.Need-returns
 unfolding flagsByte
-returns c = rw ((c .before .before .before .before .before .before .before .weigh) .ensures .0, (c .before .before .before .before .before .before .weigh2) .ensures .0, (c .before .before .before .before .before .weigh3) .ensures .0, (c .before .before .before .before .weigh4) .ensures .0, (c .before .before .before .weigh5) .ensures .0, (c .before .before .weigh6) .ensures .0, (c .before .weigh7) .ensures .0, (c .weigh8) .ensures .0)
+returns c =
+    let at-weigh6 = c .before .before in
+    let at-weigh5 = at-weigh6 .before in
+    let at-weigh4 = at-weigh5 .before in
+    let at-weigh3 = at-weigh4 .before in
+    let at-weigh2 = at-weigh3 .before in
+    let at-weigh = at-weigh2 .before in
+    rw (
+      at-weigh .weigh .ensures .0,
+      at-weigh2 .weigh2 .ensures .0,
+      at-weigh3 .weigh3 .ensures .0,
+      at-weigh4 .weigh4 .ensures .0,
+      at-weigh5 .weigh5 .ensures .0,
+      at-weigh6 .weigh6 .ensures .0,
+      c .before .weigh7 .ensures .0,
+      c .weigh8 .ensures .0,
+    )
 
 pub flags-byte-spec : {M : Type 1} → statement M
 flags-byte-spec =

@@ -14,15 +14,15 @@ enum-told-3 c = search needs
 
 returns : tie.Need-returns
 unfolding modeNumber
-returns c = rw ((c .enum-told) .given .1)
+returns c = rw (c .enum-told .given .1)
 
 returns-2 : tie.Need-returns-2
 unfolding modeNumber
-returns-2 c = rw ((c .enum-told2) .given .1)
+returns-2 c = rw (c .enum-told2 .given .1)
 
 returns-3 : tie.Need-returns-3
 unfolding modeNumber
-returns-3 c = rw ((c .enum-told3) .given .1)
+returns-3 c = rw (c .enum-told3 .given .1)
 
 pub mode-number-spec : {M : Type 1} → statement M
 mode-number-spec =

@@ -28,14 +28,22 @@ same-length c = search needs
 
 returns : tie.Need-returns
 unfolding optionalBytes presence spanOf
-returns c = rw ((c .before .before .before .before .before .before .before .before .enum-told) .given .1) (wrote-then (omega arith) ((c .before .before .before .before .before .before .put) .ensures) ((c .before .before .put-u32) .ensures))
+returns c =
+    let at-put-u32 = c .before .before in
+    let at-put = at-put-u32 .before .before .before .before in
+    let at-enum-told = at-put .before .before in
+    rw (at-enum-told .enum-told .given .1) (wrote-then (omega arith) (at-put .put .ensures) (at-put-u32 .put-u32 .ensures))
 
 same-length-2 : tie.Need-same-length-2
 same-length-2 c = search needs
 
 returns-2 : tie.Need-returns-2
 unfolding optionalBytes presence spanOf
-returns-2 c = rw ((c .before .before .before .before .before .before .before .before .before .o) .given .1) (wrote-then (omega arith) ((c .before .before .before .before .before .before .put2) .ensures) ((c .before .before .put-span) .ensures))
+returns-2 c =
+    let at-put-span = c .before .before in
+    let at-put2 = at-put-span .before .before .before .before in
+    let at-o = at-put2 .before .before .before in
+    rw (at-o .o .given .1) (wrote-then (omega arith) (at-put2 .put2 .ensures) (at-put-span .put-span .ensures))
 
 pub put-optional-spec : {M : Type 1} → statement M
 put-optional-spec =

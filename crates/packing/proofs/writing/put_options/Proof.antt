@@ -29,9 +29,20 @@ put-optional-requires-5 c κs = search needs
 same-length : tie.Need-same-length
 same-length c = search needs
 
+-- by paths
 returns : tie.Need-returns
 unfolding optionsBytes optionalBytes
-returns c = rw (← (c .before .before .before .before .before .before .before .before .before .before .before .before .before .before .before .before .before .before .before .before .before .before .before .flags-byte) .ensures) (wrote-then (omega arith) (wrote-then (omega arith) (wrote-then (omega arith) (wrote-then (omega arith) (wrote-then (omega arith) ((c .before .before .before .before .before .before .before .before .before .before .before .before .before .before .before .before .before .before .before .before .before .before .put) .ensures) ((c .before .before .before .before .before .before .before .before .before .before .before .before .before .before .before .before .before .before .put-optional) .ensures)) ((c .before .before .before .before .before .before .before .before .before .before .before .before .before .before .put-optional2) .ensures)) ((c .before .before .before .before .before .before .before .before .before .before .put-optional3) .ensures)) ((c .before .before .before .before .before .before .put-optional4) .ensures)) ((c .before .before .put-optional5) .ensures))
+returns c =
+    rw (← (c .before .before .before .before .before .before .before .before .before .before .before .before .before .before .before .before .before .before .before .before .before .before .before .flags-byte) .ensures)
+    (wrote-then (omega arith)
+    (wrote-then (omega arith)
+    (wrote-then (omega arith)
+    (wrote-then (omega arith)
+    (wrote-then (omega arith)
+    (c .before .before .before .before .before .before .before .before .before .before .before .before .before .before .before .before .before .before .before .before .before .before .put .ensures) (c .before .before .before .before .before .before .before .before .before .before .before .before .before .before .before .before .before .before .put-optional .ensures))
+    (c .before .before .before .before .before .before .before .before .before .before .before .before .before .before .put-optional2 .ensures))
+    (c .before .before .before .before .before .before .before .before .before .before .put-optional3 .ensures))
+    (c .before .before .before .before .before .before .put-optional4 .ensures)) (c .before .before .put-optional5 .ensures))
 
 pub put-options-spec : {M : Type 1} → statement M
 put-options-spec =

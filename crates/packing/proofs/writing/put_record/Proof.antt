@@ -37,21 +37,33 @@ same-length c = search needs
 
 returns : tie.Need-returns
 unfolding recordBytes importNumber sourceOf nameOf
-returns c = rw ((c .before .before .before .before .before .before .before .before .before .import) .given .1) (wrote-then (omega arith) ((c .before .before .before .before .before .before .put-two) .ensures) ((c .before .before .put-two2) .ensures))
+returns c =
+    let at-put-two2 = c .before .before in
+    let at-put-two = at-put-two2 .before .before .before .before in
+    let at-import = at-put-two .before .before .before in
+    rw (at-import .import .given .1) (wrote-then (omega arith) (at-put-two .put-two .ensures) (at-put-two2 .put-two2 .ensures))
 
 same-length-2 : tie.Need-same-length-2
 same-length-2 c = search needs
 
 returns-2 : tie.Need-returns-2
 unfolding recordBytes importNumber sourceOf nameOf
-returns-2 c = rw ((c .before .before .before .before .before .before .before .before .before .import2) .given .1) (wrote-then (omega arith) ((c .before .before .before .before .before .before .put-two3) .ensures) ((c .before .before .put-two4) .ensures))
+returns-2 c =
+    let at-put-two4 = c .before .before in
+    let at-put-two3 = at-put-two4 .before .before .before .before in
+    let at-import2 = at-put-two3 .before .before .before in
+    rw (at-import2 .import2 .given .1) (wrote-then (omega arith) (at-put-two3 .put-two3 .ensures) (at-put-two4 .put-two4 .ensures))
 
 same-length-3 : tie.Need-same-length-3
 same-length-3 c = search needs
 
 returns-3 : tie.Need-returns-3
 unfolding recordBytes importNumber sourceOf nameOf
-returns-3 c = rw ((c .before .before .before .before .before .before .before .before .enum-told) .given .1) (wrote-then (omega arith) ((c .before .before .before .before .before .before .put-two5) .ensures) ((c .before .before .put-two6) .ensures))
+returns-3 c =
+    let at-put-two6 = c .before .before in
+    let at-put-two5 = at-put-two6 .before .before .before .before in
+    let at-enum-told = at-put-two5 .before .before in
+    rw (at-enum-told .enum-told .given .1) (wrote-then (omega arith) (at-put-two5 .put-two5 .ensures) (at-put-two6 .put-two6 .ensures))
 
 pub put-record-spec : {M : Type 1} → statement M
 put-record-spec =

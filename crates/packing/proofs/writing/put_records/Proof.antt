@@ -20,7 +20,7 @@ abbrev μ-loop : tie.MeasureT-loop
 
 loop-holds : tie.Need-loop-holds Inv-loop μ-loop
 unfolding recordsBytes
-loop-holds c = (omega arith, wrote-nothing (now ((c .before .args) .out)) ((c .before .args) .at) ((c .before .pre)))
+loop-holds c = (omega arith, wrote-nothing (now (c .before .args .out)) (c .before .args .at) ((c .before .pre)))
 
 mul-r : tie.Need-mul-r Inv-loop μ-loop
 mul-r c = omega arith
@@ -39,19 +39,24 @@ loop-less c = omega arith
 
 loop-again : tie.Need-loop-again Inv-loop μ-loop
 loop-again c =
-    let s = (c .before .before .before .before .before .before .before .before) in
-    let i = (c .before .before .before .before .before .before .loop) .i in
-    let w = wrote-then (omega arith) ((c .before .before .before .before .before .before .loop) .inv .1) ((c .before .before .put-record) .ensures) in
+    let at-put-record = c .before .before in
+    let at-loop = at-put-record .before .before .before .before in
+    let at-entry = at-loop .before .before in
+    let s = at-entry in
+    let i = at-loop .loop .i in
+    let w = wrote-then (omega arith) (at-loop .loop .inv .1) (at-put-record .put-record .ensures) in
     (omega arith, rw (records-next (s .args .t1) i (omega (arith, s .good .0 .1 .0 .1))) at w)
 
 same-length : tie.Need-same-length Inv-loop μ-loop
-same-length c = wrote-length ((c .before .loop) .inv .1)
+same-length c = wrote-length (c .before .loop .inv .1)
 
 returns : tie.Need-returns Inv-loop μ-loop
 returns c =
-    let s = (c .before .before .before) in
-    let e : take ((c .before .loop) .i) (s .args .t1) ≡ s .args .t1 = take-all ((c .before .loop) .i) (s .args .t1) (omega (arith, s .good .0 .1 .0 .1)) in
-    rw e at ((c .before .loop) .inv .1)
+    let at-loop = c .before in
+    let at-entry = at-loop .before .before in
+    let s = at-entry in
+    let e : take (at-loop .loop .i) (s .args .t1) ≡ s .args .t1 = take-all (at-loop .loop .i) (s .args .t1) (omega (arith, s .good .0 .1 .0 .1)) in
+    rw e at (at-loop .loop .inv .1)
 
 pub put-records-spec : {M : Type 1} → statement M
 put-records-spec =

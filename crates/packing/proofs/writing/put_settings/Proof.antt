@@ -26,9 +26,20 @@ put-form-requires-2 c κs = search needs
 same-length : tie.Need-same-length
 same-length c = search needs
 
+-- by paths
 returns : tie.Need-returns
 unfolding settingsBytes optionsBytes optionalBytes formBytes
-returns c = rw (← (c .before .before .before .before .before .before .before .before .before .before .before .before .weigh) .ensures .0, ← (c .before .before .before .before .before .before .before .before .before .before .before .mode-number) .ensures) (wrote-then (omega arith) (wrote-then (omega arith) (wrote-then (omega arith) ((c .before .before .before .before .before .before .before .before .before .before .before .before .before .before .before .before .put-options) .ensures) ((c .before .before .before .before .before .before .before .before .before .before .put-two) .ensures)) ((c .before .before .before .before .before .before .put-form) .ensures)) ((c .before .before .put-form2) .ensures))
+returns c =
+    rw (
+      ← (c .before .before .before .before .before .before .before .before .before .before .before .before .weigh) .ensures .0,
+      ←
+          (c .before .before .before .before .before .before .before .before .before .before .before .mode-number) .ensures,
+    )
+    (wrote-then (omega arith)
+    (wrote-then (omega arith)
+    (wrote-then (omega arith)
+    (c .before .before .before .before .before .before .before .before .before .before .before .before .before .before .before .before .put-options .ensures) (c .before .before .before .before .before .before .before .before .before .before .put-two .ensures))
+    (c .before .before .before .before .before .before .put-form .ensures)) (c .before .before .put-form2 .ensures))
 
 pub put-settings-spec : {M : Type 1} → statement M
 put-settings-spec =

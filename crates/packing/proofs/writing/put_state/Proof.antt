@@ -9,7 +9,7 @@ put-settings-requires : tie.Need-put-settings-requires
 put-settings-requires c κs = search needs
 
 put-records-requires : tie.Need-put-records-requires
-put-records-requires c κs = wrote-small ((c .before .before .before .put-settings) .ensures)
+put-records-requires c κs = wrote-small (c .before .before .before .put-settings .ensures)
 
 put-u64-requires : tie.Need-put-u64-requires
 put-u64-requires c κs = search needs
@@ -23,10 +23,17 @@ put-u64-requires-3 c κs = search needs
 same-length : tie.Need-same-length
 same-length c = search needs
 
+-- by paths
 returns : tie.Need-returns
 unfolding packed
 returns c =
-    wrote-then (omega arith) (wrote-then (omega arith) (wrote-then (omega arith) (wrote-then (omega arith) ((c .before .before .before .before .before .before .before .before .before .before .before .before .before .before .before .before .before .before .put-settings) .ensures) ((c .before .before .before .before .before .before .before .before .before .before .before .before .before .before .put-records) .ensures)) ((c .before .before .before .before .before .before .before .before .before .before .put-u64) .ensures)) ((c .before .before .before .before .before .before .put-u642) .ensures)) ((c .before .before .put-u643) .ensures)
+    wrote-then (omega arith)
+    (wrote-then (omega arith)
+    (wrote-then (omega arith)
+    (wrote-then (omega arith)
+    (c .before .before .before .before .before .before .before .before .before .before .before .before .before .before .before .before .before .before .put-settings .ensures) (c .before .before .before .before .before .before .before .before .before .before .before .before .before .before .put-records .ensures))
+    (c .before .before .before .before .before .before .before .before .before .before .put-u64 .ensures))
+    (c .before .before .before .before .before .before .put-u642 .ensures)) (c .before .before .put-u643 .ensures)
 
 pub put-state-spec : {M : Type 1} → statement M
 put-state-spec =

@@ -20,7 +20,10 @@ same-length : tie.Need-same-length
 same-length c = search needs
 
 returns : tie.Need-returns
-returns c = (wrote-then (omega arith) ((c .before .before .before .before .before .before .put-u32) .ensures) ((c .before .before .put-u322) .ensures))
+returns c =
+    let at-put-u322 = c .before .before in
+    let at-put-u32 = at-put-u322 .before .before .before .before in
+    (wrote-then (omega arith) (at-put-u32 .put-u32 .ensures) (at-put-u322 .put-u322 .ensures))
 
 pub put-u64-spec : {M : Type 1} → statement M
 put-u64-spec =

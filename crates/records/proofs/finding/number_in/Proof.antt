@@ -32,9 +32,12 @@ same-import-requires c κs = search needs
 
 returns : tie.Need-returns Inv-loop μ-loop
 returns c =
-    let s = c .before .before .before .before .before in
-    let i = c .before .before .before .before .loop .i in
-    let f = number-here (s .args .t1) i (s .args .n) (s .args .import) (omega arith) (omega (arith, s .good .0 .1 .0 .1)) (told (c .before .same-import .ensures) (c .if1 .taken)) in
+    let at-loop = c .before .before .before .before in
+    let at-entry = at-loop .before in
+    let s = at-entry in
+    let i = at-loop .loop .i in
+    let f = number-here (s .args .t1) i (s .args .n) (s .args .import) (omega arith) (omega (arith, s .good .0 .1 .0 .1))
+    (told (c .before .same-import .ensures) (c .if1 .taken)) in
     omega arith
 
 add-i : tie.Need-add-i Inv-loop μ-loop
@@ -45,14 +48,17 @@ loop-less c = omega arith
 
 loop-again : tie.Need-loop-again Inv-loop μ-loop
 loop-again c =
-    let s = c .before .before .before .before .before in
-    let i = c .before .before .before .before .loop .i in
+    let at-loop = c .before .before .before .before in
+    let at-entry = at-loop .before in
+    let s = at-entry in
+    let i = at-loop .loop .i in
     let f = number-next (s .args .t1) i (s .args .n) (s .args .import) (omega arith) (omega (arith, s .good .0 .1 .0 .1)) (told (c .before .same-import .ensures) (c .if1 .left)) in
     omega arith
 
 returns-2 : tie.Need-returns-2 Inv-loop μ-loop
 returns-2 c =
-    let s = c .before .before in
+    let at-entry = c .before .before in
+    let s = at-entry in
     let i = c .before .loop .i in
     let e : i ≡ s .args .n = omega arith in
     let f : numberIn (imports (slice i (s .args .n) (s .args .t1))) (s .args .import) ≡ 0 = rw e (number-end (s .args .n) (s .args .t1) (s .args .import)) in

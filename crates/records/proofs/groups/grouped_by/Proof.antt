@@ -12,14 +12,16 @@ enum-known-import c = search needs
 
 with-group-requires : tie.Need-with-group-requires
 unfolding knownSource
-with-group-requires c κs = (ltb-true _ 2 (rw (c .before .import .given .1) at (c .before .before .before .pre .0)), c .before .before .before .pre .1)
+with-group-requires c κs =
+    (ltb-true _ 2 (rw (c .before .import .given .1) at (c .before .before .before .pre .0)), c .before .before .before .pre .1)
 
 enum-known-import-2 : tie.Need-enum-known-import-2
 enum-known-import-2 c = search needs
 
 with-group-requires-2 : tie.Need-with-group-requires-2
 unfolding knownSource
-with-group-requires-2 c κs = (ltb-true _ 2 (rw (c .before .import2 .given .1) at (c .before .before .before .pre .0)), c .before .before .before .pre .1)
+with-group-requires-2 c κs =
+    (ltb-true _ 2 (rw (c .before .import2 .given .1) at (c .before .before .before .pre .0)), c .before .before .before .pre .1)
 
 enum-told : tie.Need-enum-told
 enum-told c = search needs

@@ -25,8 +25,10 @@ returns c =
 returns-2 : tie.Need-returns-2
 unfolding sourcesOf Apart
 returns-2 c =
-    let s = c .before .before .before .before .before in
-    let told = c .before .before .before .groups .given in
+    let at-groups = c .before .before .before in
+    let at-entry = at-groups .before .before in
+    let s = at-entry in
+    let told = at-groups .groups .given in
     let p : told .0 .0 < 2 = rw (told .1) at (s .pre .1) in
     rw (told .1, c .if2 .taken) (record { same = sym (group-new true (s .args .source) _ (c .before .if1 .left)); apart = omega arith })
 
@@ -51,8 +53,10 @@ returns-4 c =
 returns-5 : tie.Need-returns-5
 unfolding sourcesOf Apart
 returns-5 c =
-    let s = c .before .before .before .before .before in
-    let told = c .before .before .before .groups .given in
+    let at-groups = c .before .before .before in
+    let at-entry = at-groups .before .before in
+    let s = at-entry in
+    let told = at-groups .groups .given in
     let p : told .0 .0 < 2 = rw (told .1) at (s .pre .1) in
     rw (told .1, c .if2 .left) (record { same = sym (group-new false (s .args .source) _ (c .before .if1 .left)); apart = omega arith })
 

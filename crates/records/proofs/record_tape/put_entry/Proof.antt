@@ -21,14 +21,20 @@ same-length c = search needs
 
 returns : tie.Need-returns
 unfolding entryOf
-returns c = rw (c .before .before .before .before .before .part .given .1) (c .before .before .put-in-group .ensures)
+returns c =
+    let at-put-in-group = c .before .before in
+    let at-part = at-put-in-group .before .before .before in
+    rw (at-part .part .given .1) (at-put-in-group .put-in-group .ensures)
 
 same-length-2 : tie.Need-same-length-2
 same-length-2 c = search needs
 
 returns-2 : tie.Need-returns-2
 unfolding entryOf
-returns-2 c = rw (c .before .before .before .before .before .part2 .given .1) (c .before .before .put-file-name .ensures)
+returns-2 c =
+    let at-put-file-name = c .before .before in
+    let at-part2 = at-put-file-name .before .before .before in
+    rw (at-part2 .part2 .given .1) (at-put-file-name .put-file-name .ensures)
 
 pub put-entry-spec : {M : Type 1} → statement M
 put-entry-spec =

@@ -40,8 +40,11 @@ same-length c = search needs
 returns-3 : tie.Need-returns-3
 unfolding fileNameEntry
 returns-3 c =
-    rw (c .before .before .before .before .before .before .before .before .enum-told3 .given .1)
-    (wrote-then (omega arith) (c .before .before .before .before .before .before .put-two .ensures) (c .before .before .put .ensures))
+    let at-put = c .before .before in
+    let at-put-two = at-put .before .before .before .before in
+    let at-enum-told3 = at-put-two .before .before in
+    rw (at-enum-told3 .enum-told3 .given .1)
+    (wrote-then (omega arith) (at-put-two .put-two .ensures) (at-put .put .ensures))
 
 pub put-file-name-spec : {M : Type 1} → statement M
 put-file-name-spec =

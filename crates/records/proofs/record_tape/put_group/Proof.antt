@@ -18,9 +18,12 @@ same-length c = search needs
 
 returns : tie.Need-returns
 returns c =
-    let a = c .before .before .before .before .before .before .before .before .before .args in
+    let at-put-part = c .before .before in
+    let at-put-two = at-put-part .before .before .before .before in
+    let at-entry = at-put-two .before .before .before in
+    let a = at-entry .args in
     rw (← part-group (a .source) (take (a .n) (a .records)))
-    (wrote-then (omega arith) (c .before .before .before .before .before .before .put-two .ensures) (c .before .before .put-part .ensures))
+    (wrote-then (omega arith) (at-put-two .put-two .ensures) (at-put-part .put-part .ensures))
 
 pub put-group-spec : {M : Type 1} → statement M
 put-group-spec = tie.close (tie.spec put-two-requires put-part-requires same-length returns)

@@ -38,7 +38,10 @@ same-length c = search needs
 
 returns-2 : tie.Need-returns-2
 unfolding groupTape sourcesOf
-returns-2 c = rw (c .before .before .before .before .before .groups .given .1, append-nil) (c .before .before .put-group .ensures)
+returns-2 c =
+    let at-put-group = c .before .before in
+    let at-groups = at-put-group .before .before .before in
+    rw (at-groups .groups .given .1, append-nil) (at-put-group .put-group .ensures)
 
 same-length-2 : tie.Need-same-length-2
 same-length-2 c = search needs
@@ -46,8 +49,11 @@ same-length-2 c = search needs
 returns-3 : tie.Need-returns-3
 unfolding groupTape sourcesOf
 returns-3 c =
-    rw (c .before .before .before .before .before .before .before .before .before .groups2 .given .1, append-nil)
-    (wrote-then (omega arith) (c .before .before .before .before .before .before .put-group2 .ensures) (c .before .before .put-group3 .ensures))
+    let at-put-group3 = c .before .before in
+    let at-put-group2 = at-put-group3 .before .before .before .before in
+    let at-groups2 = at-put-group2 .before .before .before in
+    rw (at-groups2 .groups2 .given .1, append-nil)
+    (wrote-then (omega arith) (at-put-group2 .put-group2 .ensures) (at-put-group3 .put-group3 .ensures))
 
 pub put-groups-spec : {M : Type 1} → statement M
 put-groups-spec =

@@ -20,10 +20,15 @@ put-requires c κs = search needs
 same-length : tie.Need-same-length
 same-length c = search needs
 
+-- by paths
 returns : tie.Need-returns
 unfolding entryIn
 returns c =
-    rw (c .before .before .before .before .before .before .before .before .before .before .import .given .1, eq-eqb _ _ (c .before .before .before .before .before .before .before .before .if1 .taken))
+    rw (
+      c .before .before .before .before .before .before .before .before .before .before .import .given .1,
+      eq-eqb _ _
+          (c .before .before .before .before .before .before .before .before .if1 .taken),
+    )
     (wrote-then (omega arith) (c .before .before .before .before .before .before .put-two .ensures) (c .before .before .put .ensures))
 
 enum-known-import-2 : tie.Need-enum-known-import-2
@@ -37,7 +42,11 @@ same-length-2 c = search needs
 
 returns-2 : tie.Need-returns-2
 unfolding entryIn
-returns-2 c = rw (c .before .before .before .before .before .before .import2 .given .1, eq-eqb _ _ (c .before .before .before .before .if2 .taken)) (c .before .before .put-two2 .ensures)
+returns-2 c =
+    let at-put-two2 = c .before .before in
+    let at-if2 = at-put-two2 .before .before in
+    let at-import2 = at-if2 .before .before in
+    rw (at-import2 .import2 .given .1, eq-eqb _ _ (at-if2 .if2 .taken)) (at-put-two2 .put-two2 .ensures)
 
 enum-told : tie.Need-enum-told
 enum-told c = search needs
@@ -45,14 +54,18 @@ enum-told c = search needs
 returns-3 : tie.Need-returns-3
 unfolding entryIn
 returns-3 c =
-    let s = c .before .before .before .before .before in
-    rw (c .before .before .import .given .1, ne-eqb _ _ (c .if1 .left)) (wrote-nothing (now (s .args .out)) (s .args .at) (s .pre))
+    let at-import = c .before .before in
+    let at-entry = at-import .before .before .before in
+    let s = at-entry in
+    rw (at-import .import .given .1, ne-eqb _ _ (c .if1 .left)) (wrote-nothing (now (s .args .out)) (s .args .at) (s .pre))
 
 returns-4 : tie.Need-returns-4
 unfolding entryIn
 returns-4 c =
-    let s = c .before .before .before .before .before in
-    rw (c .before .before .import2 .given .1, ne-eqb _ _ (c .if2 .left)) (wrote-nothing (now (s .args .out)) (s .args .at) (s .pre))
+    let at-import2 = c .before .before in
+    let at-entry = at-import2 .before .before .before in
+    let s = at-entry in
+    rw (at-import2 .import2 .given .1, ne-eqb _ _ (c .if2 .left)) (wrote-nothing (now (s .args .out)) (s .args .at) (s .pre))
 
 returns-5 : tie.Need-returns-5
 unfolding entryIn

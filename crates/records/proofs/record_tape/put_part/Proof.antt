@@ -37,9 +37,12 @@ loop-less c = omega arith
 
 loop-again : tie.Need-loop-again Inv-loop μ-loop
 loop-again c =
-    let s = c .before .before .before .before .before .before .before .before in
-    let i = c .before .before .before .before .before .before .loop .i in
-    let w = wrote-then (omega arith) (c .before .before .before .before .before .before .loop .inv .1) (c .before .before .put-entry .ensures) in
+    let at-put-entry = c .before .before in
+    let at-loop = at-put-entry .before .before .before .before in
+    let at-entry = at-loop .before .before in
+    let s = at-entry in
+    let i = at-loop .loop .i in
+    let w = wrote-then (omega arith) (at-loop .loop .inv .1) (at-put-entry .put-entry .ensures) in
     (omega arith, rw (part-next (s .args .part) (s .args .t2) i (omega (arith, s .good .1 .0 .1 .0 .1))) at w)
 
 same-length : tie.Need-same-length Inv-loop μ-loop

@@ -23,10 +23,14 @@ same-length c = search needs
 returns : tie.Need-returns
 unfolding tapeOf
 returns c =
-    let a = c .before .before .before .before .before .before .before .before .before .before .args in
-    let place = c .before .before .before .before .place-in in
+    let at-put-part = c .before .before in
+    let at-place-in = at-put-part .before .before in
+    let at-put-groups = at-place-in .before .before .before in
+    let at-entry = at-put-groups .before .before .before in
+    let a = at-entry .args in
+    let place = at-place-in .place-in in
     rw (← place .ensures, ← part-file (place .result) (take (a .n) (a .records)))
-    (wrote-then (omega arith) (c .before .before .before .before .before .before .before .put-groups .ensures) (c .before .before .put-part .ensures))
+    (wrote-then (omega arith) (at-put-groups .put-groups .ensures) (at-put-part .put-part .ensures))
 
 pub put-tape-spec : {M : Type 1} → statement M
 put-tape-spec =

@@ -20,10 +20,13 @@ put-tape-requires c κs = search needs
 
 returns : tie.Need-returns
 returns c =
-    let a = c .before .before .before .before .before .before .args in
+    let at-put-tape = c .before .before in
+    let at-groups-of = at-put-tape .before .before in
+    let at-entry = at-groups-of .before .before in
+    let a = at-entry .args in
     let rs = take (a .n) (a .records) in
     let few : length rs ≤ 8 = omega (arith, length-take (a .n) (a .records)) in
-    let z = tape-size (a .mode) _ rs (c .before .before .before .before .groups-of .ensures) few (c .before .before .put-tape .ensures) in
+    let z = tape-size (a .mode) _ rs (at-groups-of .groups-of .ensures) few (at-put-tape .put-tape .ensures) in
     rw z (crowded (recordTape (a .mode) rs) (now (a .target)) (omega arith))
 
 put-tape-requires-2 : tie.Need-put-tape-requires-2
@@ -34,12 +37,16 @@ same-length c = search needs
 
 returns-2 : tie.Need-returns-2
 returns-2 c =
-    let a = c .before .before .before .before .before .before .before .before .before .before .args in
+    let at-put-tape2 = c .before .before in
+    let at-put-tape = at-put-tape2 .before .before .before .before in
+    let at-groups-of = at-put-tape .before .before in
+    let at-entry = at-groups-of .before .before in
+    let a = at-entry .args in
     let rs = take (a .n) (a .records) in
     let few : length rs ≤ 8 = omega (arith, length-take (a .n) (a .records)) in
-    let z = tape-size (a .mode) _ rs (c .before .before .before .before .before .before .before .before .groups-of .ensures) few (c .before .before .before .before .before .before .put-tape .ensures) in
+    let z = tape-size (a .mode) _ rs (at-groups-of .groups-of .ensures) few (at-put-tape .put-tape .ensures) in
     let l : length (recordTape (a .mode) rs) ≤ length (now (a .target)) = omega arith in
-    let laid = tape-laid (a .mode) _ rs (c .before .before .before .before .before .before .before .before .groups-of .ensures) l (c .before .before .put-tape2 .ensures) in
+    let laid = tape-laid (a .mode) _ rs (at-groups-of .groups-of .ensures) l (at-put-tape2 .put-tape2 .ensures) in
     rw (z, laid) (roomy (recordTape (a .mode) rs) (now (a .target)) l)
 
 pub write-tape-spec : {M : Type 1} → statement M

@@ -20,13 +20,17 @@ form-under-requires-2 c κs = search needs
 
 returns : tie.Need-returns
 unfolding settingsOf
-returns c = rw (
-  c .form-under2 .ensures,
-  c .before .form-under .ensures,
-  c .before .before .before .is-absent2 .ensures,
-  c .before .before .before .before .is-absent .ensures,
-  c .before .before .before .before .before .mode-of .ensures,
-)
+returns c =
+    let at-is-absent2 = c .before .before .before in
+    let at-is-absent = at-is-absent2 .before in
+    let at-mode-of = at-is-absent .before in
+    rw (
+      c .form-under2 .ensures,
+      c .before .form-under .ensures,
+      at-is-absent2 .is-absent2 .ensures,
+      at-is-absent .is-absent .ensures,
+      at-mode-of .mode-of .ensures,
+    )
 
 pub new-spec : {M : Type 1} → statement M
 new-spec =

@@ -65,27 +65,34 @@ returns-3 c = sym (rw (told (c .before .before .option-command-at .ensures) (c .
 returns-4 : tie.Need-returns-4
 unfolding nextBy
 returns-4 c =
+    let at-s = c .before .before .before in
+    let at-option-command-at = at-s .before .before in
     c .spanned .ensures
     ∙ rw (c .before .with-given .ensures)
-    (sym (rw (told (c .before .before .before .before .before .option-command-at .ensures) (c .before .before .before .s .given .1))))
+    (sym (rw (told (at-option-command-at .option-command-at .ensures) (at-s .s .given .1))))
 
 returns-5 : tie.Need-returns-5
 unfolding nextBy
 returns-5 c =
+    let at-s2 = c .before .before .before in
+    let at-option-command-at = at-s2 .before .before in
     c .spanned2 .ensures
     ∙ rw (c .before .with-given2 .ensures)
-    (sym (rw (told (c .before .before .before .before .before .option-command-at .ensures) (c .before .before .before .s2 .given .1))))
+    (sym (rw (told (at-option-command-at .option-command-at .ensures) (at-s2 .s2 .given .1))))
 
 returns-6 : tie.Need-returns-6
 unfolding nextBy
 returns-6 c =
+    let at-s3 = c .before .before .before in
+    let at-option-command-at = at-s3 .before .before in
     c .spanned3 .ensures
     ∙ rw (c .before .with-given3 .ensures)
-    (sym (rw (told (c .before .before .before .before .before .option-command-at .ensures) (c .before .before .before .s3 .given .1))))
+    (sym (rw (told (at-option-command-at .option-command-at .ensures) (at-s3 .s3 .given .1))))
 
 returns-7 : tie.Need-returns-7
 unfolding nextBy
-returns-7 c = c .spanned4 .ensures ∙ sym (rw (told (c .before .before .before .before .option-command-at .ensures) (c .before .before .s4 .given .1)))
+returns-7 c =
+    c .spanned4 .ensures ∙ sym (rw (told (c .before .before .before .before .option-command-at .ensures) (c .before .before .s4 .given .1)))
 
 pub next-command-spec : {M : Type 1} → statement M
 next-command-spec =

@@ -41,21 +41,28 @@ open-text-requires c κs = search needs
 returns-3 : tie.Need-returns-3
 unfolding opened judgeOpening refuse refuseAt
 returns-3 c =
+    let at-place = c .before .before in
+    let at-first-ill-formed = at-place .before .before in
+    let at-if2 = at-first-ill-formed .before in
+    let at-if1 = at-if2 .before in
     c .refused3 .ensures
     ∙ sym (rw (
-      le-ltb _ _ (c .before .before .before .before .before .before .if1 .left),
-      le-ltb _ _ (c .before .before .before .before .before .if2 .left),
-      told (c .before .before .before .before .first-ill-formed .ensures) (c .before .before .place .given .1),
+      le-ltb _ _ (at-if1 .if1 .left),
+      le-ltb _ _ (at-if2 .if2 .left),
+      told (at-first-ill-formed .first-ill-formed .ensures) (at-place .place .given .1),
     ))
 
 returns-4 : tie.Need-returns-4
 unfolding opened judgeOpening refuse refuseAt openedTape
 returns-4 c =
+    let at-first-ill-formed = c .before .before .before in
+    let at-if2 = at-first-ill-formed .before in
+    let at-if1 = at-if2 .before in
     c .open-text .ensures
     ∙ sym (rw (
-      le-ltb _ _ (c .before .before .before .before .before .if1 .left),
-      le-ltb _ _ (c .before .before .before .before .if2 .left),
-      told (c .before .before .before .first-ill-formed .ensures) (c .before .enum-told .given .1),
+      le-ltb _ _ (at-if1 .if1 .left),
+      le-ltb _ _ (at-if2 .if2 .left),
+      told (at-first-ill-formed .first-ill-formed .ensures) (c .before .enum-told .given .1),
     ))
 
 pub open-job-spec : {M : Type 1} → statement M

@@ -35,26 +35,34 @@ accepted-requires c κs = search needs
 
 returns : tie.Need-returns
 unfolding pragmasChecked refuseAt
-returns c = c .refused .ensures ∙ sym (rw (told (c .before .before .before .before .over-ascii-under .ensures) (c .before .before .place .given .1)))
+returns c =
+    c .refused .ensures ∙ sym (rw (told (c .before .before .before .before .over-ascii-under .ensures) (c .before .before .place .given .1)))
 
 returns-2 : tie.Need-returns-2
 unfolding pragmasChecked refuseAt
 returns-2 c =
+    let at-place2 = c .before .before in
+    let at-over-ascii-under2 = at-place2 .before .before in
+    let at-enum-told = at-over-ascii-under2 .before in
+    let at-over-ascii-under = at-enum-told .before .before in
     c .refused2 .ensures
     ∙ sym (rw (
-      told (c .before .before .before .before .before .before .before .over-ascii-under .ensures)
-          (c .before .before .before .before .before .enum-told .given .1),
-      told (c .before .before .before .before .over-ascii-under2 .ensures) (c .before .before .place2 .given .1),
+      told (at-over-ascii-under .over-ascii-under .ensures)
+          (at-enum-told .enum-told .given .1),
+      told (at-over-ascii-under2 .over-ascii-under2 .ensures) (at-place2 .place2 .given .1),
     ))
 
 returns-3 : tie.Need-returns-3
 unfolding pragmasChecked refuseAt
 returns-3 c =
+    let at-over-ascii-under2 = c .before .before .before in
+    let at-enum-told = at-over-ascii-under2 .before in
+    let at-over-ascii-under = at-enum-told .before .before in
     c .accepted .ensures
     ∙ sym (rw (
-      told (c .before .before .before .before .before .before .over-ascii-under .ensures)
-          (c .before .before .before .before .enum-told .given .1),
-      told (c .before .before .before .over-ascii-under2 .ensures) (c .before .enum-told2 .given .1),
+      told (at-over-ascii-under .over-ascii-under .ensures)
+          (at-enum-told .enum-told .given .1),
+      told (at-over-ascii-under2 .over-ascii-under2 .ensures) (c .before .enum-told2 .given .1),
     ))
 
 pub open-settings-spec : {M : Type 1} → statement M

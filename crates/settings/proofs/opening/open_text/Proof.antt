@@ -28,23 +28,31 @@ open-settings-requires : tie.Need-open-settings-requires
 open-settings-requires c κs = search needs
 
 returns : tie.Need-returns
-returns c = c .refused .ensures
+returns c =
+    let at-fault = c .before .before in
+    let at-read-opening = at-fault .before .before in
+    let at-entry = at-read-opening .before .before .before in
+    c .refused .ensures
     ∙ sym (ap openedBy
     (tape-refused _ _ _ _
-    (c .before .before .before .before .read-opening .ensures
-    ∙ ap (judgedBy (c .before .before .before .before .before .before .before .args .text .now)
-    (c .before .before .before .before .before .before .before .args .tape .now)) (c .before .before .fault .given .1))))
+    (at-read-opening .read-opening .ensures
+    ∙ ap (judgedBy (at-entry .args .text .now)
+    (at-entry .args .tape .now)) (at-fault .fault .given .1))))
 
 returns-2 : tie.Need-returns-2
 returns-2 c =
+    let at-update-options-with-comments = c .before .before in
+    let at-options = at-update-options-with-comments .before .before in
+    let at-read-opening = at-options .before .before in
+    let at-entry = at-read-opening .before .before .before in
     c .open-settings .ensures
-    ∙ rw (c .before .new .ensures, c .before .before .update-options-with-comments .ensures)
+    ∙ rw (c .before .new .ensures, at-update-options-with-comments .update-options-with-comments .ensures)
     (sym (ap openedBy
     (tape-read _ _ _
-    (c .before .before .before .before .before .before .read-opening .ensures
-    ∙ ap (judgedBy (c .before .before .before .before .before .before .before .before .before .args .text .now)
-    (c .before .before .before .before .before .before .before .before .before .args .tape .now))
-    (c .before .before .before .before .options .given .1)))))
+    (at-read-opening .read-opening .ensures
+    ∙ ap (judgedBy (at-entry .args .text .now)
+    (at-entry .args .tape .now))
+    (at-options .options .given .1)))))
 
 pub open-text-spec : {M : Type 1} → statement M
 open-text-spec =

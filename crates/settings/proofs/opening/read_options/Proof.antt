@@ -22,7 +22,10 @@ command : (c : tie.After-next-command Inv-loop μ-loop) → c .next-command .res
     (drop (c .before .before .loop .i) (c .before .before .before .before .before .before .args .tape .now)) (c .before .before .loop .options)
     (optionCommand (c .before .before .loop .last)
     (drop (c .before .before .loop .i) (c .before .before .before .before .before .before .args .tape .now)))
-command c = rw (tail-part (c .before .before .before .before .before .before .args .tape .now) (c .before .before .loop .i)) at
+command c =
+    let at-loop = c .before .before in
+    let at-entry = at-loop .before .before .before .before in
+    rw (tail-part (at-entry .args .tape .now) (at-loop .loop .i)) at
     (c .next-command .ensures)
 
 bare-options-requires : tie.Need-bare-options-requires Inv-loop μ-loop
@@ -48,58 +51,76 @@ enum-told c = search needs
 
 returns : tie.Need-returns Inv-loop μ-loop
 unfolding judgedBy
-returns c = at-end _ _ _ _ _ _ (c .before .before .before .before .loop .inv .0) (c .before .before .before .before .loop .inv .1)
+returns c =
+    at-end _ _ _ _ _ _ (c .before .before .before .before .loop .inv .0) (c .before .before .before .before .loop .inv .1)
     (told (command (c .before .before)) (c .enum-told .given .1))
 
 enum-known-fault : tie.Need-enum-known-fault Inv-loop μ-loop
 enum-known-fault c = search needs
 
 add-t16 : tie.Need-add-t16 Inv-loop μ-loop
-add-t16 c = omega (
-  arith,
-  fault-inside (c .before .before .before .before .before .before .before .before .before .args .text .now)
-      (c .before .before .before .before .before .before .before .before .before .args .tape .now) _ _ _ _
-      (c .before .before .before .before .before .loop .inv .0) (c .before .before .before .before .before .loop .inv .1) _ _
-      (told (command (c .before .before .before)) (c .before .fault .given .1)),
-)
+add-t16 c =
+    let at-command = c .before .before .before in
+    let at-loop = at-command .before .before in
+    let at-entry = at-loop .before .before .before .before in
+    omega (
+      arith,
+      fault-inside (at-entry .args .text .now)
+          (at-entry .args .tape .now) _ _ _ _
+          (at-loop .loop .inv .0) (at-loop .loop .inv .1) _ _
+          (told (command at-command) (c .before .fault .given .1)),
+    )
 
 returns-2 : tie.Need-returns-2 Inv-loop μ-loop
 unfolding judgedBy
 returns-2 c =
-    at-fault _ _ _ _ _ _ (c .before .before .before .before .before .loop .inv .0) (c .before .before .before .before .before .loop .inv .1) _ _
-    (told (command (c .before .before .before)) (c .before .fault .given .1))
+    let at-command = c .before .before .before in
+    let at-loop = at-command .before .before in
+    at-fault _ _ _ _ _ _ (at-loop .loop .inv .0) (at-loop .loop .inv .1) _ _
+    (told (command at-command) (c .before .fault .given .1))
 
 enum-known-next : tie.Need-enum-known-next Inv-loop μ-loop
 enum-known-next c = search needs
 
 add-i : tie.Need-add-i Inv-loop μ-loop
-add-i c = omega (
-  arith,
-  command-inside (c .before .before .before .before .before .before .before .before .before .args .text .now)
-      (c .before .before .before .before .before .before .before .before .before .args .tape .now) _ _ _ _
-      (c .before .before .before .before .before .loop .inv .0) (c .before .before .before .before .before .loop .inv .1) _ _
-      (told (command (c .before .before .before)) (c .before .next .given .1)),
-)
+add-i c =
+    let at-command = c .before .before .before in
+    let at-loop = at-command .before .before in
+    let at-entry = at-loop .before .before .before .before in
+    omega (
+      arith,
+      command-inside (at-entry .args .text .now)
+          (at-entry .args .tape .now) _ _ _ _
+          (at-loop .loop .inv .0) (at-loop .loop .inv .1) _ _
+          (told (command at-command) (c .before .next .given .1)),
+    )
 
 loop-less : tie.Need-loop-less Inv-loop μ-loop
 loop-less c =
+    let at-command = c .before .before .before in
+    let at-loop = at-command .before .before in
+    let at-entry = at-loop .before .before .before .before in
     omega (
       arith,
-      command-inside (c .before .before .before .before .before .before .before .before .before .args .text .now)
-          (c .before .before .before .before .before .before .before .before .before .args .tape .now) _ _ _ _
-          (c .before .before .before .before .before .loop .inv .0) (c .before .before .before .before .before .loop .inv .1) _ _
-          (told (command (c .before .before .before)) (c .before .next .given .1)),
+      command-inside (at-entry .args .text .now)
+          (at-entry .args .tape .now) _ _ _ _
+          (at-loop .loop .inv .0) (at-loop .loop .inv .1) _ _
+          (told (command at-command) (c .before .next .given .1)),
     )
 
 loop-again : tie.Need-loop-again Inv-loop μ-loop
-loop-again c = (
-  command-inside (c .before .before .before .before .before .before .before .before .before .args .text .now)
-      (c .before .before .before .before .before .before .before .before .before .args .tape .now) _ _ _ _
-      (c .before .before .before .before .before .loop .inv .0) (c .before .before .before .before .before .loop .inv .1) _ _
-      (told (command (c .before .before .before)) (c .before .next .given .1)),
-  onward _ _ _ _ _ _ (c .before .before .before .before .before .loop .inv .0) (c .before .before .before .before .before .loop .inv .1) _ _
-      (told (command (c .before .before .before)) (c .before .next .given .1)),
-)
+loop-again c =
+    let at-next = c .before in
+    let at-command = at-next .before .before in
+    let at-loop = at-command .before .before in
+    let at-entry = at-loop .before .before .before .before in (
+      command-inside (at-entry .args .text .now)
+          (at-entry .args .tape .now) _ _ _ _
+          (at-loop .loop .inv .0) (at-loop .loop .inv .1) _ _
+          (told (command at-command) (at-next .next .given .1)),
+      onward _ _ _ _ _ _ (at-loop .loop .inv .0) (at-loop .loop .inv .1) _ _
+          (told (command at-command) (at-next .next .given .1)),
+    )
 
 pub read-options-spec : {M : Type 1} → statement M
 read-options-spec =

@@ -39,11 +39,15 @@ can-bind-requires c κs = search needs
 
 returns : tie.Need-returns Inv-loop μ-loop
 returns c =
-    let s = c .before .before .before .before .before .before .before in
-    let i = c .before .before .before .before .before .before .loop .i in
+    let at-number-in = c .before .before in
+    let at-loop = at-number-in .before .before .before .before in
+    let at-entry = at-loop .before in
+    let s = at-entry in
+    let i = at-loop .loop .i in
     let l : s .args .n ≤ length (s .args .t2) = omega (arith, s .good .1 .0 .1 .0 .1) in
-    let next = follows-not (s .args .settings) (s .args .t2) i (s .args .n) (omega arith) l _ _ (c .before .before .number-in .ensures) (c .before .can-bind .ensures) (not-true _ (c .if1 .taken)) in
-    sym (c .before .before .before .before .before .before .loop .inv .1 ∙ next)
+    let next = follows-not (s .args .settings) (s .args .t2) i (s .args .n) (omega arith) l _ _ (at-number-in .number-in .ensures)
+    (c .before .can-bind .ensures) (not-true _ (c .if1 .taken)) in
+    sym (at-loop .loop .inv .1 ∙ next)
 
 add-i : tie.Need-add-i Inv-loop μ-loop
 add-i c = search needs
@@ -53,11 +57,15 @@ loop-less c = search needs
 
 loop-again : tie.Need-loop-again Inv-loop μ-loop
 loop-again c =
-    let s = c .before .before .before .before .before .before .before in
-    let i = c .before .before .before .before .before .before .loop .i in
+    let at-number-in = c .before .before in
+    let at-loop = at-number-in .before .before .before .before in
+    let at-entry = at-loop .before in
+    let s = at-entry in
+    let i = at-loop .loop .i in
     let l : s .args .n ≤ length (s .args .t2) = omega (arith, s .good .1 .0 .1 .0 .1) in
-    let next = follows-on (s .args .settings) (s .args .t2) i (s .args .n) (omega arith) l _ _ (c .before .before .number-in .ensures) (c .before .can-bind .ensures) (not-false _ (c .if1 .left)) in
-    (omega arith, c .before .before .before .before .before .before .loop .inv .1 ∙ next)
+    let next = follows-on (s .args .settings) (s .args .t2) i (s .args .n) (omega arith) l _ _ (at-number-in .number-in .ensures)
+    (c .before .can-bind .ensures) (not-false _ (c .if1 .left)) in
+    (omega arith, at-loop .loop .inv .1 ∙ next)
 
 returns-2 : tie.Need-returns-2 Inv-loop μ-loop
 returns-2 c =

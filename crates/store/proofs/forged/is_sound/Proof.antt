@@ -21,8 +21,10 @@ follow-requires c κs = search needs
 
 returns-2 : tie.Need-returns-2
 returns-2 c =
-    let a = c .before .before .before .before .before .before .before .before .args in
-    rw (c .before .before .spans-borne-out .ensures, c .before .forms-borne-out .ensures, c .follow .ensures) (sound-parts (now (a .text)) (a .state) (omega arith))
+    let at-spans-borne-out = c .before .before in
+    let at-entry = at-spans-borne-out .before .before .before .before .before .before in
+    let a = at-entry .args in
+    rw (at-spans-borne-out .spans-borne-out .ensures, c .before .forms-borne-out .ensures, c .follow .ensures) (sound-parts (now (a .text)) (a .state) (omega arith))
 
 pub is-sound-spec : {M : Type 1} → statement M
 is-sound-spec =

@@ -20,8 +20,11 @@ borne-out-requires-5 c κs = search needs
 
 returns : tie.Need-returns
 returns c =
+    let at-borne-out3 = c .before .before in
+    let at-borne-out2 = at-borne-out3 .before in
+    let at-borne-out = at-borne-out2 .before in
     let last = c .borne-out5 .ensures in
-    rw (c .before .before .before .before .borne-out .ensures, c .before .before .before .borne-out2 .ensures, c .before .before .borne-out3 .ensures, c .before .borne-out4 .ensures, last)
+    rw (at-borne-out .borne-out .ensures, at-borne-out2 .borne-out2 .ensures, at-borne-out3 .borne-out3 .ensures, c .before .borne-out4 .ensures, last)
 
 pub spans-borne-out-spec : {M : Type 1} → statement M
 spans-borne-out-spec =

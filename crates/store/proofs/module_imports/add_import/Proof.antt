@@ -26,9 +26,11 @@ cast-t9 c = search needs
 
 returns-2 : tie.Need-returns-2
 returns-2 c =
-    let s = c .before .before .before .before .before in
+    let at-number-in = c .before in
+    let at-entry = at-number-in .before .before .before .before in
+    let s = at-entry in
     let store = s .args .store in
-    let n : c .before .number-in .result ≡ numberIn (things store) (s .args .import) = c .before .number-in .ensures in
+    let n : at-number-in .number-in .result ≡ numberIn (things store) (s .args .import) = at-number-in .number-in .ensures in
     rw n (sym (added-found store (s .args .import) (omega arith) (eight s) (omega arith)))
 
 cast-binding : tie.Need-cast-binding
@@ -45,13 +47,17 @@ add-t15 c = search needs
 
 returns-3 : tie.Need-returns-3
 returns-3 c =
-    let s = c .before .before .before .before .before .before in
-    sym (added-made (s .args .store) (s .args .import) (omega arith) (eight s) (omega (arith, c .before .before .number-in .ensures)) (c .if3 .taken))
+    let at-number-in = c .before .before in
+    let at-entry = at-number-in .before .before .before .before in
+    let s = at-entry in
+    sym (added-made (s .args .store) (s .args .import) (omega arith) (eight s) (omega (arith, at-number-in .number-in .ensures)) (c .if3 .taken))
 
 returns-4 : tie.Need-returns-4
 returns-4 c =
-    let s = c .before .before .before .before .before .before in
-    sym (added-full (s .args .store) (s .args .import) (omega arith) (eight s) (omega (arith, c .before .before .number-in .ensures)) (c .if3 .left))
+    let at-number-in = c .before .before in
+    let at-entry = at-number-in .before .before .before .before in
+    let s = at-entry in
+    sym (added-full (s .args .store) (s .args .import) (omega arith) (eight s) (omega (arith, at-number-in .number-in .ensures)) (c .if3 .left))
 
 pub add-import-spec : {M : Type 1} → statement M
 add-import-spec =

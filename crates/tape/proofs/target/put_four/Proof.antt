@@ -56,7 +56,10 @@ same-length-2 : tie.Need-same-length-2
 same-length-2 c = search needs
 
 returns-2 : tie.Need-returns-2
-returns-2 c = wrote-then (omega arith) (c .before .before .before .before .before .before .put-two .ensures) (c .before .before .put-two2 .ensures)
+returns-2 c =
+    let at-put-two2 = c .before .before in
+    let at-put-two = at-put-two2 .before .before .before .before in
+    wrote-then (omega arith) (at-put-two .put-two .ensures) (at-put-two2 .put-two2 .ensures)
 
 pub put-four-spec : {M : Type 1} → statement M
 put-four-spec =

@@ -29,13 +29,18 @@ loop-less : tie.Need-loop-less Inv-loop μ-loop
 loop-less c = omega arith
 
 loop-again : tie.Need-loop-again Inv-loop μ-loop
-loop-again c = filled-next (λ xs. xs) _ (λ xs. refl) (omega (arith, (c .before .before .before .before .before .before .before .before .before))) ((c .before .before .before .before .before .loop-test) .taken) ((c .before .before .before .before .before .before .loop) .inv) ((c .before .before .put) .ensures)
+loop-again c =
+    let at-put = c .before .before in
+    let at-loop-test = at-put .before .before .before in
+    let at-loop = at-loop-test .before in
+    let at-entry = at-loop .before .before .before in
+    filled-next (λ xs. xs) _ (λ xs. refl) (omega (arith, at-entry)) (at-loop-test .loop-test .taken) (at-loop .loop .inv) (at-put .put .ensures)
 
 same-length : tie.Need-same-length Inv-loop μ-loop
-same-length c = (c .before .loop) .inv .same
+same-length c = c .before .loop .inv .same
 
 returns : tie.Need-returns Inv-loop μ-loop
-returns c = filled-end (λ xs. xs) _ ((c .before .loop) .inv) ((c .loop-test) .left)
+returns c = filled-end (λ xs. xs) _ (c .before .loop .inv) (c .loop-test .left)
 
 pub put-slice-spec : {M : Type 1} → statement M
 put-slice-spec =

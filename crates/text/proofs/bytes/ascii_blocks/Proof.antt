@@ -47,7 +47,13 @@ loop-less : tie.Need-loop-less Inv-loop μ-loop
 loop-less c = search needs
 
 loop-again : tie.Need-loop-again Inv-loop μ-loop
-loop-again c = (omega arith, c .before .before .before .before .loop .inv .1 ∙ find-block overAscii (c .before .before .before .before .before .before .args .s .now) (c .before .before .before .before .loop .i) _ (omega arith) (c .before .is-ascii .ensures (not-false _ (c .if1 .left))))
+loop-again c =
+    let at-loop = c .before .before .before .before in
+    let at-entry = at-loop .before .before in (
+      omega arith,
+      at-loop .loop .inv .1 ∙ find-block overAscii (at-entry .args .s .now) (at-loop .loop .i) _ (omega arith)
+          (c .before .is-ascii .ensures (not-false _ (c .if1 .left))),
+    )
 
 returns-2 : tie.Need-returns-2 Inv-loop μ-loop
 returns-2 c = search needs

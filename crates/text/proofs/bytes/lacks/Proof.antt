@@ -29,11 +29,13 @@ loop-less : tie.Need-loop-less Inv-loop μ-loop
 loop-less c = search needs
 
 loop-again : tie.Need-loop-again Inv-loop μ-loop
-loop-again c = (
-  search needs,
-  λ h. let o = both-lack (c .before .before .loop .all) (getD (c .before .before .before .args .s .now) (c .before .before .loop .i) 0) (c .before .before .before .args .b) h in
-      c .before .before .loop .inv .1 (o .0) ∙ find-step _ _ _ (c .before .loop-test .taken) (o .1),
-)
+loop-again c =
+    let at-loop = c .before .before in
+    let at-entry = at-loop .before in (
+      search needs,
+      λ h. let o = both-lack (at-loop .loop .all) (getD (at-entry .args .s .now) (at-loop .loop .i) 0) (at-entry .args .b) h in
+          at-loop .loop .inv .1 (o .0) ∙ find-step _ _ _ (c .before .loop-test .taken) (o .1),
+    )
 
 returns : tie.Need-returns Inv-loop μ-loop
 returns c = λ e. c .before .loop .inv .1 e ∙ find-end _ _ _ (c .loop-test .left)

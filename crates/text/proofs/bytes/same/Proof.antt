@@ -28,8 +28,12 @@ shared-slice-read-if2-2 : tie.Need-shared-slice-read-if2-2 Inv-loop μ-loop
 shared-slice-read-if2-2 c = search needs
 
 returns-2 : tie.Need-returns-2 Inv-loop μ-loop
-returns-2 c = let s = (c .before .before .before .before .before .before .args) in let l = (c .before .before .before .before .loop) in
-    sym (l .inv .2 ∙ same-differ (s .a .now) (s .b .now) (l .i) (c .before .before .before .loop-test .taken) (omega arith) (c .if2 .taken))
+returns-2 c =
+    let at-loop-test = c .before .before .before in
+    let at-loop = at-loop-test .before in
+    let at-entry = at-loop .before .before in
+    let s = (at-entry .args) in let l = at-loop .loop in
+    sym (l .inv .2 ∙ same-differ (s .a .now) (s .b .now) (l .i) (at-loop-test .loop-test .taken) (omega arith) (c .if2 .taken))
 
 add-i : tie.Need-add-i Inv-loop μ-loop
 add-i c = search needs
@@ -38,11 +42,16 @@ loop-less : tie.Need-loop-less Inv-loop μ-loop
 loop-less c = search needs
 
 loop-again : tie.Need-loop-again Inv-loop μ-loop
-loop-again c = let s = (c .before .before .before .before .before .before .args) in let l = (c .before .before .before .before .loop) in
-    (omega arith, l .inv .1, l .inv .2 ∙ same-step (s .a .now) (s .b .now) (l .i) (c .before .before .before .loop-test .taken) (omega arith) (c .if2 .left))
+loop-again c =
+    let at-loop-test = c .before .before .before in
+    let at-loop = at-loop-test .before in
+    let at-entry = at-loop .before .before in
+    let s = (at-entry .args) in let l = at-loop .loop in
+    (omega arith, l .inv .1, l .inv .2 ∙ same-step (s .a .now) (s .b .now) (l .i) (at-loop-test .loop-test .taken) (omega arith) (c .if2 .left))
 
 returns-3 : tie.Need-returns-3 Inv-loop μ-loop
-returns-3 c = let s = (c .before .before .before .args) in let l = (c .before .loop) in
+returns-3 c =
+    let s = (c .before .before .before .args) in let l = c .before .loop in
     sym (l .inv .2 ∙ same-end (s .a .now) (s .b .now) (l .i) (omega arith) (omega arith))
 
 pub same-spec : {M : Type 1} → statement M

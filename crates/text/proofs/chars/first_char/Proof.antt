@@ -29,7 +29,10 @@ add-t8 : tie.Need-add-t8
 add-t8 c = search needs
 
 returns-3 : tie.Need-returns-3
-returns-3 c = char-two _ _ (c .before .before .before .before .before .width .ensures) (c .before .before .if3 .taken) _ _ (c .before .over2 .ensures .0) (c .over3 .ensures .0)
+returns-3 c =
+    let at-if3 = c .before .before in
+    let at-width = at-if3 .before .before .before in
+    char-two _ _ (at-width .width .ensures) (at-if3 .if3 .taken) _ _ (c .before .over2 .ensures .0) (c .over3 .ensures .0)
 
 over-requires-4 : tie.Need-over-requires-4
 over-requires-4 c κs = search needs
@@ -53,7 +56,11 @@ add-t15 : tie.Need-add-t15
 add-t15 c = search needs
 
 returns-4 : tie.Need-returns-4
-returns-4 c = char-three _ _ (c .before .before .before .before .before .before .before .width .ensures) (c .before .before .before .if4 .taken) _ _ _ (c .before .before .over4 .ensures .0) (c .before .over5 .ensures .0) (c .over6 .ensures .0)
+returns-4 c =
+    let at-over4 = c .before .before in
+    let at-if4 = at-over4 .before in
+    let at-width = at-if4 .before .before .before .before in
+    char-three _ _ (at-width .width .ensures) (at-if4 .if4 .taken) _ _ _ (at-over4 .over4 .ensures .0) (c .before .over5 .ensures .0) (c .over6 .ensures .0)
 
 over-requires-7 : tie.Need-over-requires-7
 over-requires-7 c κs = search needs
@@ -86,7 +93,16 @@ add-t25 : tie.Need-add-t25
 add-t25 c = search needs
 
 returns-5 : tie.Need-returns-5
-returns-5 c = char-four _ _ (c .before .before .before .before .before .before .before .before .width .ensures) (c .before .before .before .before .before .before .before .if1 .left) (c .before .before .before .before .before .before .if2 .left) (c .before .before .before .before .before .if3 .left) (c .before .before .before .before .if4 .left) _ _ _ _ (c .before .before .before .over7 .ensures .0) (c .before .before .over8 .ensures .0) (c .before .over9 .ensures .0) (c .over10 .ensures .0)
+returns-5 c =
+    let at-over8 = c .before .before in
+    let at-over7 = at-over8 .before in
+    let at-if4 = at-over7 .before in
+    let at-if3 = at-if4 .before in
+    let at-if2 = at-if3 .before in
+    let at-if1 = at-if2 .before in
+    let at-width = at-if1 .before in
+    char-four _ _ (at-width .width .ensures) (at-if1 .if1 .left) (at-if2 .if2 .left) (at-if3 .if3 .left) (at-if4 .if4 .left) _ _ _ _
+    (at-over7 .over7 .ensures .0) (at-over8 .over8 .ensures .0) (c .before .over9 .ensures .0) (c .over10 .ensures .0)
 
 pub first-char-spec : {M : Type 1} → statement M
 first-char-spec =

@@ -31,15 +31,43 @@ cuts-at-requires-2 c κs = search needs
 
 returns-3 : tie.Need-returns-3
 unfolding boundsOf
-returns-3 c = rw (le-ltb _ _ (c .before .before .before .before .if1 .left), told (c .before .before .before .cuts-at .ensures) (c .before .before .if2 .left), told (c .before .cuts-at2 .ensures) (c .if3 .taken))
+returns-3 c =
+    let at-if2 = c .before .before in
+    let at-cuts-at = at-if2 .before in
+    let at-if1 = at-cuts-at .before in
+    rw (le-ltb _ _ (at-if1 .if1 .left), told (at-cuts-at .cuts-at .ensures) (at-if2 .if2 .left), told (c .before .cuts-at2 .ensures) (c .if3 .taken))
 
 returns-4 : tie.Need-returns-4
 unfolding boundsOf
-returns-4 c = rw (le-ltb _ _ (c .before .before .before .before .before .before .if1 .left), told (c .before .before .before .before .before .cuts-at .ensures) (c .before .before .before .before .if2 .left), told (c .before .before .before .cuts-at2 .ensures) (c .before .before .if3 .left), eq-eqb _ _ (c .if4 .taken))
+returns-4 c =
+    let at-if3 = c .before .before in
+    let at-cuts-at2 = at-if3 .before in
+    let at-if2 = at-cuts-at2 .before in
+    let at-cuts-at = at-if2 .before in
+    let at-if1 = at-cuts-at .before in
+    rw (
+      le-ltb _ _ (at-if1 .if1 .left),
+      told (at-cuts-at .cuts-at .ensures) (at-if2 .if2 .left),
+      told (at-cuts-at2 .cuts-at2 .ensures)
+          (at-if3 .if3 .left),
+      eq-eqb _ _ (c .if4 .taken),
+    )
 
 returns-5 : tie.Need-returns-5
 unfolding boundsOf
-returns-5 c = rw (le-ltb _ _ (c .before .before .before .before .before .before .if1 .left), told (c .before .before .before .before .before .cuts-at .ensures) (c .before .before .before .before .if2 .left), told (c .before .before .before .cuts-at2 .ensures) (c .before .before .if3 .left), ne-eqb _ _ (c .if4 .left))
+returns-5 c =
+    let at-if3 = c .before .before in
+    let at-cuts-at2 = at-if3 .before in
+    let at-if2 = at-cuts-at2 .before in
+    let at-cuts-at = at-if2 .before in
+    let at-if1 = at-cuts-at .before in
+    rw (
+      le-ltb _ _ (at-if1 .if1 .left),
+      told (at-cuts-at .cuts-at .ensures) (at-if2 .if2 .left),
+      told (at-cuts-at2 .cuts-at2 .ensures)
+          (at-if3 .if3 .left),
+      ne-eqb _ _ (c .if4 .left),
+    )
 
 pub span-bounds-spec : {M : Type 1} → statement M
 span-bounds-spec =

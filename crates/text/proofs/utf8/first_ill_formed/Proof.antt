@@ -36,14 +36,24 @@ enum-told : tie.Need-enum-told Inv-loop μ-loop
 enum-told c = search needs
 
 returns : tie.Need-returns Inv-loop μ-loop
-returns c = sym (come-plain _ _ (c .before .before .before .before .before .loop .inv) _ (c .before .before .find-over-ascii .ensures) (c .enum-told .given .1))
+returns c =
+    let at-find-over-ascii = c .before .before in
+    let at-loop = at-find-over-ascii .before .before .before in
+    sym (come-plain _ _ (at-loop .loop .inv) _ (at-find-over-ascii .find-over-ascii .ensures) (c .enum-told .given .1))
 
 -- the run of ASCII is passed
 abbrev place : (c : tie.After-known-told Inv-loop μ-loop) → ℕ
-place c = c .before .before .before .before .before .before .loop .i + c .before .run .given .0 .0
+place c =
+    let at-loop = c .before .before .before .before .before .before in
+    at-loop .loop .i + c .before .run .given .0 .0
 
-ran : (c : tie.After-known-told Inv-loop μ-loop) → (place c < length (c .before .before .before .before .before .before .before .before .args .s .now)) × Come (c .before .before .before .before .before .before .before .before .args .s .now) (place c)
-ran c = come-run _ _ (c .before .before .before .before .before .before .loop .inv) _ (c .before .before .before .find-over-ascii .ensures) _ (c .before .run .given .1)
+ran : (c : tie.After-known-told Inv-loop μ-loop)
+    → (place c < length (c .before .before .before .before .before .before .before .before .args .s .now)) × Come
+    (c .before .before .before .before .before .before .before .before .args .s .now) (place c)
+ran c =
+    let at-find-over-ascii = c .before .before .before in
+    let at-loop = at-find-over-ascii .before .before .before in
+    come-run _ _ (at-loop .loop .inv) _ (at-find-over-ascii .find-over-ascii .ensures) _ (c .before .run .given .1)
 
 add-at : tie.Need-add-at Inv-loop μ-loop
 add-at c = omega (arith, ran c .0)

@@ -14,13 +14,34 @@ within-at-requires-3 : tie.Need-within-at-requires-3
 within-at-requires-3 c κs = search needs
 
 returns : tie.Need-returns
-returns c = rw (told (c .before .before .before .before .before .within-at .ensures) (c .before .before .before .before .if1 .taken), told (c .before .before .before .within-at2 .ensures) (c .before .before .if2 .taken), told (c .before .within-at3 .ensures) (c .if3 .taken))
+returns c =
+    let at-if2 = c .before .before in
+    let at-within-at2 = at-if2 .before in
+    let at-if1 = at-within-at2 .before in
+    let at-within-at = at-if1 .before in
+    rw (
+      told (at-within-at .within-at .ensures) (at-if1 .if1 .taken),
+      told (at-within-at2 .within-at2 .ensures) (at-if2 .if2 .taken),
+      told
+          (c .before .within-at3 .ensures) (c .if3 .taken),
+    )
 
 returns-2 : tie.Need-returns-2
-returns-2 c = rw (told (c .before .before .before .before .before .within-at .ensures) (c .before .before .before .before .if1 .taken), told (c .before .before .before .within-at2 .ensures) (c .before .before .if2 .taken), told (c .before .within-at3 .ensures) (c .if3 .left))
+returns-2 c =
+    let at-if2 = c .before .before in
+    let at-within-at2 = at-if2 .before in
+    let at-if1 = at-within-at2 .before in
+    let at-within-at = at-if1 .before in
+    rw (
+      told (at-within-at .within-at .ensures) (at-if1 .if1 .taken),
+      told (at-within-at2 .within-at2 .ensures) (at-if2 .if2 .taken),
+      told
+          (c .before .within-at3 .ensures) (c .if3 .left),
+    )
 
 returns-3 : tie.Need-returns-3
-returns-3 c = rw (told (c .before .before .before .within-at .ensures) (c .before .before .if1 .taken), told (c .before .within-at2 .ensures) (c .if2 .left))
+returns-3 c =
+    rw (told (c .before .before .before .within-at .ensures) (c .before .before .if1 .taken), told (c .before .within-at2 .ensures) (c .if2 .left))
 
 returns-4 : tie.Need-returns-4
 returns-4 c = rw (told (c .before .within-at .ensures) (c .if1 .left))

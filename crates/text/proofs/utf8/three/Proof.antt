@@ -11,10 +11,12 @@ within-at-requires-2 : tie.Need-within-at-requires-2
 within-at-requires-2 c κs = search needs
 
 returns : tie.Need-returns
-returns c = rw (told (c .before .before .before .within-at .ensures) (c .before .before .if1 .taken), told (c .before .within-at2 .ensures) (c .if2 .taken))
+returns c =
+    rw (told (c .before .before .before .within-at .ensures) (c .before .before .if1 .taken), told (c .before .within-at2 .ensures) (c .if2 .taken))
 
 returns-2 : tie.Need-returns-2
-returns-2 c = rw (told (c .before .before .before .within-at .ensures) (c .before .before .if1 .taken), told (c .before .within-at2 .ensures) (c .if2 .left))
+returns-2 c =
+    rw (told (c .before .before .before .within-at .ensures) (c .before .before .if1 .taken), told (c .before .within-at2 .ensures) (c .if2 .left))
 
 returns-3 : tie.Need-returns-3
 returns-3 c = rw (told (c .before .within-at .ensures) (c .if1 .left))

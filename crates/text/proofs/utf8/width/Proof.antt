@@ -16,58 +16,78 @@ returns-2 : tie.Need-returns-2
 returns-2 c = by-row (c .before .before .before .before .args .s .now) 0 (omega arith)
 
 returns-3 : tie.Need-returns-3
-returns-3 c = no-row (c .before .before .before .before .before .args .s .now) 1 (omega arith)
+returns-3 c =
+    let at-entry = c .before .before .before .before .before in
+    no-row (at-entry .args .s .now) 1 (omega arith)
 
 two-requires : tie.Need-two-requires
 two-requires c κs = search needs
 
 returns-4 : tie.Need-returns-4
-returns-4 c = c .two .ensures ∙ by-row (c .before .before .before .before .before .before .before .args .s .now) 1 (omega arith)
+returns-4 c =
+    let at-entry = c .before .before .before .before .before .before .before in
+    c .two .ensures ∙ by-row (at-entry .args .s .now) 1 (omega arith)
 
 three-requires : tie.Need-three-requires
 three-requires c κs = search needs
 
 returns-5 : tie.Need-returns-5
-returns-5 c = c .three .ensures ∙ by-row (c .before .before .before .before .before .before .before .before .args .s .now) 2 (omega arith)
+returns-5 c =
+    let at-entry = c .before .before .before .before .before .before .before .before in
+    c .three .ensures ∙ by-row (at-entry .args .s .now) 2 (omega arith)
 
 three-requires-2 : tie.Need-three-requires-2
 three-requires-2 c κs = search needs
 
 returns-6 : tie.Need-returns-6
-returns-6 c = c .three2 .ensures ∙ by-row (c .before .before .before .before .before .before .before .before .before .args .s .now) 3 (omega arith)
+returns-6 c =
+    let at-entry = c .before .before .before .before .before .before .before .before .before in
+    c .three2 .ensures ∙ by-row (at-entry .args .s .now) 3 (omega arith)
 
 three-requires-3 : tie.Need-three-requires-3
 three-requires-3 c κs = search needs
 
 returns-7 : tie.Need-returns-7
-returns-7 c = c .three3 .ensures ∙ by-row (c .before .before .before .before .before .before .before .before .before .before .args .s .now) 4 (omega arith)
+returns-7 c =
+    let at-entry = c .before .before .before .before .before .before .before .before .before .before in
+    c .three3 .ensures ∙ by-row (at-entry .args .s .now) 4 (omega arith)
 
 three-requires-4 : tie.Need-three-requires-4
 three-requires-4 c κs = search needs
 
 returns-8 : tie.Need-returns-8
-returns-8 c = c .three4 .ensures ∙ by-row (c .before .before .before .before .before .before .before .before .before .before .before .args .s .now) 5 (omega arith)
+returns-8 c =
+    let at-entry = c .before .before .before .before .before .before .before .before .before .before .before in
+    c .three4 .ensures ∙ by-row (at-entry .args .s .now) 5 (omega arith)
 
 four-requires : tie.Need-four-requires
 four-requires c κs = search needs
 
 returns-9 : tie.Need-returns-9
-returns-9 c = c .four .ensures ∙ by-row (c .before .before .before .before .before .before .before .before .before .before .before .before .args .s .now) 6 (omega arith)
+returns-9 c =
+    let at-entry = c .before .before .before .before .before .before .before .before .before .before .before .before in
+    c .four .ensures ∙ by-row (at-entry .args .s .now) 6 (omega arith)
 
 four-requires-2 : tie.Need-four-requires-2
 four-requires-2 c κs = search needs
 
 returns-10 : tie.Need-returns-10
-returns-10 c = c .four2 .ensures ∙ by-row (c .before .before .before .before .before .before .before .before .before .before .before .before .before .args .s .now) 7 (omega arith)
+returns-10 c =
+    let at-entry = c .before .before .before .before .before .before .before .before .before .before .before .before .before in
+    c .four2 .ensures ∙ by-row (at-entry .args .s .now) 7 (omega arith)
 
 four-requires-3 : tie.Need-four-requires-3
 four-requires-3 c κs = search needs
 
 returns-11 : tie.Need-returns-11
-returns-11 c = c .four3 .ensures ∙ by-row (c .before .before .before .before .before .before .before .before .before .before .before .before .before .before .args .s .now) 8 (omega arith)
+returns-11 c =
+    let at-entry = c .before .before .before .before .before .before .before .before .before .before .before .before .before .before in
+    c .four3 .ensures ∙ by-row (at-entry .args .s .now) 8 (omega arith)
 
 returns-12 : tie.Need-returns-12
-returns-12 c = no-row (c .before .before .before .before .before .before .before .before .before .before .before .before .before .args .s .now) 9 (omega arith)
+returns-12 c =
+    let at-entry = c .before .before .before .before .before .before .before .before .before .before .before .before .before in
+    no-row (at-entry .args .s .now) 9 (omega arith)
 
 pub width-spec : {M : Type 1} → statement M
 width-spec =

@@ -42,12 +42,15 @@ element-copy-out-if3-2 c = search needs
 
 returns-3 : tie.Need-returns-3 Inv-loop μ-loop
 returns-3 c =
-    let l = c .before .before .before .before .loop in
-    let a = c .before .before .before .before .before .before .before .args .t1 in
-    let b = c .before .before .before .before .before .before .before .args .t2 in
+    let at-loop = c .before .before .before .before in
+    let at-if1 = at-loop .before .before in
+    let at-entry = at-if1 .before in
+    let l = at-loop .loop in
+    let a = at-entry .args .t1 in
+    let b = at-entry .args .t2 in
     let u : length (a .v) ≡ 16 = search needs in
     let v : length (b .v) ≡ 16 = search needs in
-    sym (same-count a b (c .before .before .before .before .before .before .if1 .left) (omega arith)
+    sym (same-count a b (at-if1 .if1 .left) (omega arith)
     ∙ (l .inv .2 ∙ front-differ (a .v) (b .v) (a .n) (l .i) (omega arith) (omega arith) (omega arith) (c .if3 .taken)))
 
 add-i : tie.Need-add-i Inv-loop μ-loop
@@ -58,9 +61,11 @@ loop-less c = search needs
 
 loop-again : tie.Need-loop-again Inv-loop μ-loop
 loop-again c =
-    let l = c .before .before .before .before .loop in
-    let a = c .before .before .before .before .before .before .before .args .t1 in
-    let b = c .before .before .before .before .before .before .before .args .t2 in
+    let at-loop = c .before .before .before .before in
+    let at-entry = at-loop .before .before .before in
+    let l = at-loop .loop in
+    let a = at-entry .args .t1 in
+    let b = at-entry .args .t2 in
     let u : length (a .v) ≡ 16 = search needs in
     let v : length (b .v) ≡ 16 = search needs in
     (omega arith, l .inv .1, l .inv .2 ∙ front-step (a .v) (b .v) (a .n) (l .i) (omega arith) (omega arith) (omega arith) (c .if3 .left))

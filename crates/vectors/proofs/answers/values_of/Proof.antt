@@ -55,9 +55,12 @@ loop-less c = omega (arith, c .before .before .before .before .next-word .ensure
 loop-again : tie.Need-loop-again Inv-loop μ-loop
 unfolding withValues
 loop-again c =
-    let left = c .before .before .before .before .before .loop .inv in
-    let w = c .before .before .before .before .next-word .ensures in
-    left-word valued _ left (w .0) (λ l. rw (c .with-value .ensures, c .before .value-of .ensures)) (c .before .before .before .if1 .left) (w .1)
+    let at-if1 = c .before .before .before in
+    let at-next-word = at-if1 .before in
+    let at-loop = at-next-word .before in
+    let left = at-loop .loop .inv in
+    let w = at-next-word .next-word .ensures in
+    left-word valued _ left (w .0) (λ l. rw (c .with-value .ensures, c .before .value-of .ensures)) (at-if1 .if1 .left) (w .1)
 
 pub values-of-spec : {M : Type 1} → statement M
 values-of-spec =

@@ -46,9 +46,12 @@ part-result-end-2 c = search needs
 
 returns-2 : tie.Need-returns-2
 returns-2 c =
-    let n = c .before .before .n in
-    rw (told (c .before .before .before .before .find-byte .ensures) (n .given .1))
-    (tail-part (c .before .before .before .before .before .before .args .s .now) (n .given .0 .0 + 1))
+    let at-n = c .before .before in
+    let at-find-byte = at-n .before .before in
+    let at-entry = at-find-byte .before .before in
+    let n = at-n .n in
+    rw (told (at-find-byte .find-byte .ensures) (n .given .1))
+    (tail-part (at-entry .args .s .now) (n .given .0 .0 + 1))
 
 pub after-spec : {M : Type 1} → statement M
 after-spec =

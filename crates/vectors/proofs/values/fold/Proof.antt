@@ -32,8 +32,10 @@ mark-requires c κs = search needs
 
 add-value : tie.Need-add-value Inv-loop μ-loop
 add-value c =
-    let base = c .before .before .before .before .before .args .base in
-    record { fits = omega (arith, product-below (c .before .before .before .loop .value) base (omega arith)) }
+    let at-loop = c .before .before .before in
+    let at-entry = at-loop .before .before in
+    let base = at-entry .args .base in
+    record { fits = omega (arith, product-below (at-loop .loop .value) base (omega arith)) }
 
 add-i : tie.Need-add-i Inv-loop μ-loop
 add-i c = search needs

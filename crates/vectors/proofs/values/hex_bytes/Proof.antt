@@ -26,8 +26,10 @@ same-length c = c .before .before .loop .inv .kept
 
 returns : tie.Need-returns Inv-loop μ-loop
 returns c =
-    let l = c .before .before .loop in
-    came-end (l .inv) (hex-short (c .before .before .before .before .before .args .s .now) (l .i) (omega arith))
+    let at-loop = c .before .before in
+    let at-entry = at-loop .before .before .before in
+    let l = at-loop .loop in
+    came-end (l .inv) (hex-short (at-entry .args .s .now) (l .i) (omega arith))
 
 shared-slice-read-is-blank : tie.Need-shared-slice-read-is-blank Inv-loop μ-loop
 shared-slice-read-is-blank c = search needs
@@ -42,7 +44,9 @@ loop-less : tie.Need-loop-less Inv-loop μ-loop
 loop-less c = search needs
 
 loop-again : tie.Need-loop-again Inv-loop μ-loop
-loop-again c = came-blank (c .before .before .before .before .before .loop .inv) (omega arith) (told (c .before .is-blank .ensures) (c .if2 .taken))
+loop-again c =
+    let at-loop = c .before .before .before .before .before in
+    came-blank (at-loop .loop .inv) (omega arith) (told (c .before .is-blank .ensures) (c .if2 .taken))
 
 shared-slice-read-digit : tie.Need-shared-slice-read-digit Inv-loop μ-loop
 shared-slice-read-digit c = search needs
@@ -60,24 +64,38 @@ digit-requires-2 : tie.Need-digit-requires-2 Inv-loop μ-loop
 digit-requires-2 c κs = search needs
 
 same-length-2 : tie.Need-same-length-2 Inv-loop μ-loop
-same-length-2 c = c .before .before .before .before .before .before .before .before .before .before .loop .inv .kept
+same-length-2 c =
+    let at-loop = c .before .before .before .before .before .before .before .before .before .before in
+    at-loop .loop .inv .kept
 
 returns-2 : tie.Need-returns-2 Inv-loop μ-loop
 returns-2 c =
-    let l = c .before .before .before .before .before .before .before .before .before .before .loop in
-    let s = c .before .before .before .before .before .before .before .before .before .before .before .before .before .args .s .now in
-    let ink = told (c .before .before .before .before .before .before .is-blank .ensures) (c .before .before .before .before .before .if2 .left) in
-    came-end (l .inv) (hex-high s (l .i) (omega arith) ink (told (c .before .before .before .digit .ensures .0) (c .if3 .taken)))
+    let at-digit = c .before .before .before in
+    let at-if2 = at-digit .before .before in
+    let at-is-blank = at-if2 .before in
+    let at-loop = at-is-blank .before .before .before .before in
+    let at-entry = at-loop .before .before .before in
+    let l = at-loop .loop in
+    let s = at-entry .args .s .now in
+    let ink = told (at-is-blank .is-blank .ensures) (at-if2 .if2 .left) in
+    came-end (l .inv) (hex-high s (l .i) (omega arith) ink (told (at-digit .digit .ensures .0) (c .if3 .taken)))
 
 same-length-3 : tie.Need-same-length-3 Inv-loop μ-loop
-same-length-3 c = c .before .before .before .before .before .before .before .before .before .before .before .loop .inv .kept
+same-length-3 c =
+    let at-loop = c .before .before .before .before .before .before .before .before .before .before .before in
+    at-loop .loop .inv .kept
 
 returns-3 : tie.Need-returns-3 Inv-loop μ-loop
 returns-3 c =
-    let l = c .before .before .before .before .before .before .before .before .before .before .before .loop in
-    let s = c .before .before .before .before .before .before .before .before .before .before .before .before .before .before .args .s .now in
-    let ink = told (c .before .before .before .before .before .before .before .is-blank .ensures) (c .before .before .before .before .before .before .if2 .left) in
-    came-end (l .inv) (hex-low s (l .i) (omega arith) ink (told (c .before .before .digit2 .ensures .0) (c .if4 .taken)))
+    let at-digit2 = c .before .before in
+    let at-if2 = at-digit2 .before .before .before .before in
+    let at-is-blank = at-if2 .before in
+    let at-loop = at-is-blank .before .before .before .before in
+    let at-entry = at-loop .before .before .before in
+    let l = at-loop .loop in
+    let s = at-entry .args .s .now in
+    let ink = told (at-is-blank .is-blank .ensures) (at-if2 .if2 .left) in
+    came-end (l .inv) (hex-low s (l .i) (omega arith) ink (told (at-digit2 .digit2 .ensures .0) (c .if4 .taken)))
 
 mul-out : tie.Need-mul-out Inv-loop μ-loop
 mul-out c = search needs
@@ -99,13 +117,19 @@ loop-less-2 c = search needs
 
 loop-again-2 : tie.Need-loop-again-2 Inv-loop μ-loop
 loop-again-2 c =
-    let ink = told (c .before .before .before .before .before .before .before .is-blank .ensures) (c .before .before .before .before .before .before .if2 .left) in
-    let high = c .before .before .before .before .digit .ensures in
-    let low = c .before .before .digit2 .ensures in
+    let at-digit2 = c .before .before in
+    let at-digit = at-digit2 .before .before in
+    let at-if2 = at-digit .before .before in
+    let at-is-blank = at-if2 .before in
+    let at-loop-test = at-is-blank .before .before .before in
+    let at-loop = at-loop-test .before in
+    let ink = told (at-is-blank .is-blank .ensures) (at-if2 .if2 .left) in
+    let high = at-digit .digit .ensures in
+    let low = at-digit2 .digit2 .ensures in
     came-pair _ _
-    (c .before .before .before .before .before .before .before .before .before .before .before .loop .inv)
+    (at-loop .loop .inv)
     (omega arith)
-    (c .before .before .before .before .before .before .before .before .before .before .loop-test .taken)
+    (at-loop-test .loop-test .taken)
     ink (high .0) (low .0) (omega arith) (omega arith)
 
 same-length-4 : tie.Need-same-length-4 Inv-loop μ-loop

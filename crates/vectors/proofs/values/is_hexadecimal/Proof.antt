@@ -35,7 +35,10 @@ same-requires-2 c κs = search needs
 
 returns-2 : tie.Need-returns-2
 unfolding isHexadecimal
-returns-2 c = (rw (le-leb 3 _ (c .before .before .before .before .before .if1 .left), c .before .before .same .ensures, c .same2 .ensures), λ e. omega arith)
+returns-2 c =
+    let at-same = c .before .before in
+    let at-if1 = at-same .before .before .before in
+    (rw (le-leb 3 _ (at-if1 .if1 .left), at-same .same .ensures, c .same2 .ensures), λ e. omega arith)
 
 pub is-hexadecimal-spec : {M : Type 1} → statement M
 is-hexadecimal-spec =

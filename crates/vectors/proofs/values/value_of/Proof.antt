@@ -24,8 +24,11 @@ fold-requires c κs = search needs
 returns : tie.Need-returns
 unfolding valueOf
 returns c =
-    let hex = told (c .before .before .before .is-hexadecimal .ensures .0) (c .before .before .if1 .taken) in
-    rw (hex, ← tail-part (c .before .before .before .before .before .args .word .now) 2) (c .fold .ensures .0)
+    let at-if1 = c .before .before in
+    let at-is-hexadecimal = at-if1 .before in
+    let at-entry = at-is-hexadecimal .before .before in
+    let hex = told (at-is-hexadecimal .is-hexadecimal .ensures .0) (at-if1 .if1 .taken) in
+    rw (hex, ← tail-part (at-entry .args .word .now) 2) (c .fold .ensures .0)
 
 is-decimal-requires : tie.Need-is-decimal-requires
 is-decimal-requires c κs = search needs

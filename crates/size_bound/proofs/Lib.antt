@@ -1,0 +1,3 @@
+pub mod Passing
+pub mod Fronts
+pub mod SizeBounds

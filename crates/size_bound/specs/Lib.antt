@@ -1,0 +1,2 @@
+pub mod SizeBound
+pub mod Examples
