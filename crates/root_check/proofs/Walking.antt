@@ -44,14 +44,14 @@ use Rattle.definitions.specs.Judging.{Parsed, done, stop, _then_, map, from, sp
 use Rattle.definitions.specs.Tree.{Property, Node, Attributes, Value, Children}
 use Rattle.definitions.specs.Reading.{ampersand, lettered, opened, membersBy, nameBy, propertiesBy, attributesBy, valueBy, childrenBy, membersAt}
 use Rattle.definitions.specs.Reading.{nameAt, propertiesAt, elementAt, fragmentAt, attributesAt, valueAt, childrenAt}
-use Rattle.root_check.specs.Skipping.{openBehind, passedBy, passedIn, valuePassed}
+use Rattle.root_check.specs.Skipping.{sizeWithin, openBehind, passedBy, passedIn, valuePassed}
 use Rattle.root_check.proofs.Codes.{member-coded, name-coded, property-coded, attribute-coded, value-coded, child-coded}
 
 -- ---- the walk
 
 -- a command of s bytes stands at the front of t
 pub record Stands (t : List ℕ) (s : ℕ) : Type 0 where
-  pub size : commandSize (getD t 0 0) ≡ s
+  pub size : sizeWithin (getD t 0 0) ≡ s
   pub some : 1 ≤ s
   pub fits : s ≤ length t
 
@@ -101,10 +101,10 @@ module _ {A : Type 0} {n m k : ℕ} {t : List ℕ} where
   behind u h stops = stops
 
 -- the command with the code b, of s bytes, by itself and before more
-module _ (t : List ℕ) (b s : ℕ) {n m : ℕ} (code : getD t 0 0 ≡ b) (size : commandSize b ≡ s) (count : openBehind b n ≡ m) (some : 1 ≤ s) (fits : s ≤ length t) where
+module _ (t : List ℕ) (b s : ℕ) {n m : ℕ} (code : getD t 0 0 ≡ b) (size : sizeWithin b ≡ s) (count : openBehind b n ≡ m) (some : 1 ≤ s) (fits : s ≤ length t) where
   over : (w : ℕ) → Rest m (drop s t) w → Walk n t (s + w)
   over w r =
-      passes s m w (record { size = ap commandSize code ∙ size; some = some; fits = fits }) (ap (λ (x : ℕ). openBehind x n) code ∙ count) r
+      passes s m w (record { size = ap sizeWithin code ∙ size; some = some; fits = fits }) (ap (λ (x : ℕ). openBehind x n) code ∙ count) r
 
   alone : {A : Type 0} {a : A} → Leads n m t (done a s)
   alone = leads {u = s} over
@@ -148,7 +148,7 @@ Onward n m k t next = (u : ℕ) → ((w : ℕ) → Walk (suc m) (drop u t) w →
 module _ (text t : List ℕ) (c : ℕ) where
   members-lead : (x : MemberCommand) (next : ℕ → Parsed (List Span)) → memberCommand t ≡ x → Onward (suc c) c (suc c) t next
       → Leads (suc c) (suc c) t (membersBy text t x next)
-  unfolding membersBy Rest commandSize sizeIn rootCommands openBehind
+  unfolding membersBy Rest sizeWithin commandSize sizeIn rootCommands openBehind
   members-lead members.Other next e f = leads {u = 0} (λ w r. rw (zero-add w) r)
   members-lead members.Cut next e f = stops
   members-lead (members.Member s) next e f =
@@ -156,7 +156,7 @@ module _ (text t : List ℕ) (c : ℕ) where
 
   name-lead : (x : NameCommand) (next : ℕ → Parsed (List Span)) → nameCommand t ≡ x → Onward (suc c) c (suc c) t next
       → Leads (suc c) (suc c) t (nameBy text t x next)
-  unfolding nameBy Rest commandSize sizeIn rootCommands openBehind
+  unfolding nameBy Rest sizeWithin commandSize sizeIn rootCommands openBehind
   name-lead names.Wrong next e f = stops
   name-lead names.Cut next e f = stops
   name-lead (names.Plain s) next e f = named-leads _ (alone t 0x20 5 (name-coded t e (omega arith)) refl refl (omega arith) (name-fits t e))
@@ -168,7 +168,7 @@ module _ (text t : List ℕ) (c : ℕ) where
 
   properties-lead : (x : PropertyCommand) (next : ℕ → Parsed (List Property)) → propertyCommand t ≡ x → Onward (suc c) c (suc c) t next
       → Leads (suc c) (suc c) t (propertiesBy text t x next)
-  unfolding propertiesBy Rest commandSize sizeIn rootCommands openBehind
+  unfolding propertiesBy Rest sizeWithin commandSize sizeIn rootCommands openBehind
   properties-lead properties.Wrong next e f = stops
   properties-lead properties.Cut next e f = stops
   properties-lead properties.End next e f = alone t 0x35 1 (property-coded t e (omega arith)) refl refl (omega arith) (property-fits t e)
@@ -198,7 +198,7 @@ module _ (text t : List ℕ) where
       → attributeCommand t ≡ x
       → Onward (suc c) c (suc c) t value → Onward (suc c) c (suc c) t props → Onward (suc c) c (suc c) t next
       → Leads (suc c) (suc c) t (attributesBy text t x value props next)
-  unfolding attributesBy Rest commandSize sizeIn rootCommands openBehind
+  unfolding attributesBy Rest sizeWithin commandSize sizeIn rootCommands openBehind
   attributes-lead c attributes.Wrong value props next e v p f = stops
   attributes-lead c attributes.Cut value props next e v p f = stops
   attributes-lead c attributes.End value props next e v p f = alone t 0x1e 1 (attribute-coded t e (omega arith)) refl refl (omega arith) (attribute-fits t e)
@@ -219,7 +219,7 @@ module _ (text t : List ℕ) where
 
   value-lead : (n d : ℕ) (x : ValueCommand) (whole bare : Place → Parsed Node) → valueCommand t ≡ x → Closed n whole → Closed n bare
       → Leads n n t (valueBy text d t x whole bare)
-  unfolding valueBy Rest commandSize sizeIn rootCommands openBehind
+  unfolding valueBy Rest sizeWithin commandSize sizeIn rootCommands openBehind
   value-lead n d values.Wrong whole bare e w b = stops
   value-lead n d values.Cut whole bare e w b = stops
   value-lead n d values.Absent whole bare e w b = alone t 0x40 1 (value-coded t e (omega arith)) refl refl (omega arith) (value-fits t e)
@@ -235,7 +235,7 @@ module _ (text t : List ℕ) where
   children-lead : (c d : ℕ) (x : ChildCommand) (whole bare : Place → Parsed Node) (next : ℕ → Parsed Children) → childCommand t ≡ x
       → Closed (suc c) whole → Closed (suc c) bare → Onward (suc c) c c t next
       → Leads (suc c) c t (childrenBy text d t x whole bare next)
-  unfolding childrenBy Rest commandSize sizeIn rootCommands openBehind
+  unfolding childrenBy Rest sizeWithin commandSize sizeIn rootCommands openBehind
   children-lead c d children.Wrong whole bare next e w b f = stops
   children-lead c d children.Cut whole bare next e w b f = stops
   children-lead c d children.End whole bare next e w b f = alone t 0x1f 1 {n = suc c} (child-coded t e (omega arith)) refl (sub-one (suc c)) (omega arith) (child-fits t e)
@@ -315,16 +315,16 @@ passed-within : (f n : ℕ) (t : List ℕ) → passedIn f n t ≤ length t
 unfolding passedIn passedBy
 passed-within zero n t = omega arith
 passed-within (suc f) n t =
-    let s = commandSize (getD t 0 0) in
+    let s = sizeWithin (getD t 0 0) in
     let m = openBehind (getD t 0 0) n in
     go (eqb s 0) (ltb (length t) s) refl (eqb m 0) (passed-within f m (drop s t))
   where
-    go : (a b : Bool) → ltb (length t) (commandSize (getD t 0 0)) ≡ b → (c : Bool) {v : ℕ} → v ≤ length (drop (commandSize (getD t 0 0)) t)
-        → cond (a || b) 0 (commandSize (getD t 0 0) + cond c 0 v) ≤ length t
+    go : (a b : Bool) → ltb (length t) (sizeWithin (getD t 0 0)) ≡ b → (c : Bool) {v : ℕ} → v ≤ length (drop (sizeWithin (getD t 0 0)) t)
+        → cond (a || b) 0 (sizeWithin (getD t 0 0) + cond c 0 v) ≤ length t
     go true b e c h = omega arith
     go false true e c h = omega arith
-    go false false e true h = omega (arith, ltb-false (length t) (commandSize (getD t 0 0)) e)
-    go false false e false h = omega (arith, ltb-false (length t) (commandSize (getD t 0 0)) e, length-drop (commandSize (getD t 0 0)) t)
+    go false false e true h = omega (arith, ltb-false (length t) (sizeWithin (getD t 0 0)) e)
+    go false false e false h = omega (arith, ltb-false (length t) (sizeWithin (getD t 0 0)) e, length-drop (sizeWithin (getD t 0 0)) t)
 
 pub value-skipped : (tape : List ℕ) {r : ℕ} → r ≡ valuePassed tape
     → (r ≤ length tape)
@@ -359,9 +359,9 @@ open-behind-le code n = go (eqb code 0x10 || eqb code 0x11) (eqb code 0x1f)
     go false true = omega arith
     go false false = omega arith
 
-module _ {tape : List ℕ} {n i : ℕ} (P : Passed tape n i) {size : ℕ} (s : size ≡ commandSize (getD tape i 0)) where
-  first-size : commandSize (getD (drop i tape) 0 0) ≡ size
-  first-size = ap commandSize (code-at tape i) ∙ sym s
+module _ {tape : List ℕ} {n i : ℕ} (P : Passed tape n i) {size : ℕ} (s : size ≡ sizeWithin (getD tape i 0)) where
+  first-size : sizeWithin (getD (drop i tape) 0 0) ≡ size
+  first-size = ap sizeWithin (code-at tape i) ∙ sym s
 
   -- no whole command stands at i
   stops-here : (eqb size 0 || ltb (length (drop i tape)) size) ≡ true → i ≡ valuePassed tape

@@ -10,6 +10,10 @@ use Rattle.commands.specs.declared.root.PropertyCommand.the-variants as propert
 use Rattle.commands.specs.Root.{propertyCommand}
 use Rattle.commands.specs.Sizes.{commandSize}
 
+-- how many bytes a command takes that stands within an element or a fragment; what a root stands in, 01 and 02, comes before them
+unfoldable pub sizeWithin : ℕ → ℕ
+sizeWithin code = cond (ltb code 0x10) 0 (commandSize code)
+
 -- how many elements and fragments are open behind the command with this code, with n open before it
 unfoldable pub openBehind : ℕ → ℕ → ℕ
 openBehind code n = cond (eqb code 0x10 || eqb code 0x11) (suc n) (cond (eqb code 0x1f) (n - 1) n)
@@ -25,7 +29,7 @@ passedBy size levels t next = cond (eqb size 0 || ltb (length t) size) 0 (size +
 unfoldable pub passedIn : ℕ → ℕ → List ℕ → ℕ
 passedIn zero n t = 0
 passedIn (suc f) n t =
-    passedBy (commandSize (getD t 0 0)) (openBehind (getD t 0 0) n) t (passedIn f (openBehind (getD t 0 0) n) (drop (commandSize (getD t 0 0)) t))
+    passedBy (sizeWithin (getD t 0 0)) (openBehind (getD t 0 0) n) t (passedIn f (openBehind (getD t 0 0) n) (drop (sizeWithin (getD t 0 0)) t))
 
 -- from a value on: no walk takes more commands than there are bytes
 abbrev pub valuePassed : List ℕ → ℕ

@@ -7,12 +7,22 @@ ghost use lib.ListN.{length};
 ghost use Rattle.definitions.specs.Judging.{done};
 ghost use Rattle.definitions.specs.Tree.{Property, Value};
 ghost use Rattle.definitions.specs.Reading.{propertiesAt, valueAt};
-ghost use Rattle.root_check.specs.Skipping.{openBehind, valuePassed, propertiesPassed};
+ghost use Rattle.root_check.specs.Skipping.{sizeWithin, openBehind, valuePassed, propertiesPassed};
 use commands::codes;
 use commands::root::PropertyCommand;
 use commands::root::property_command_at;
 use commands::sizes;
 use commands::sizes::command_size;
+
+// How many bytes a command takes that stands within an element or a fragment; 0 where there is none.
+fn size_within(code: u8) -> usize
+    ensures { λ r. ⌜ r ≡ sizeWithin code ⌝ }
+{
+    if code < codes::ELEMENT {
+        return 0;
+    }
+    command_size(code)
+}
 
 // How many elements and fragments are open behind a command, with `levels` of them before it.
 fn open_behind(code: u8, levels: usize) -> usize
@@ -46,7 +56,7 @@ pub fn skip_value(tape: &[u8]) -> usize
     let mut i: usize = 0;
     while i < tape.len() {
         let code = tape[i];
-        let size = command_size(code);
+        let size = size_within(code);
         if size == 0 {
             return i;
         }

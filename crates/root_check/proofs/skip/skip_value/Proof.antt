@@ -18,20 +18,20 @@ loop-holds c = (omega arith, omega arith, passed-none _)
 shared-slice-read-code : tie.Need-shared-slice-read-code Inv-loop μ-loop
 shared-slice-read-code c = search needs
 
-command-size-requires : tie.Need-command-size-requires Inv-loop μ-loop
-command-size-requires c κs = search needs
+size-within-requires : tie.Need-size-within-requires Inv-loop μ-loop
+size-within-requires c κs = search needs
 
 returns : tie.Need-returns Inv-loop μ-loop
-returns c = value-skipped _ (passed-no-command (c .before .before .before .before .loop .inv .2) (c .before .command-size .ensures) (c .if1 .taken))
+returns c = value-skipped _ (passed-no-command (c .before .before .before .before .loop .inv .2) (c .before .size-within .ensures) (c .if1 .taken))
 
 sub-if2 : tie.Need-sub-if2 Inv-loop μ-loop
 sub-if2 c = search needs
 
 returns-2 : tie.Need-returns-2 Inv-loop μ-loop
 returns-2 c =
-    let at-command-size = c .before .before in
-    let at-loop = at-command-size .before .before .before in
-    value-skipped _ (passed-cut (at-loop .loop .inv .2) (at-command-size .command-size .ensures) (c .if2 .taken))
+    let at-size-within = c .before .before in
+    let at-loop = at-size-within .before .before .before in
+    value-skipped _ (passed-cut (at-loop .loop .inv .2) (at-size-within .size-within .ensures) (c .if2 .taken))
 
 open-behind-requires : tie.Need-open-behind-requires Inv-loop μ-loop
 open-behind-requires c κs = search needs
@@ -43,10 +43,10 @@ returns-3 : tie.Need-returns-3 Inv-loop μ-loop
 returns-3 c =
     let at-if2 = c .before .before in
     let at-if1 = at-if2 .before in
-    let at-command-size = at-if1 .before in
-    let at-loop = at-command-size .before .before .before in
+    let at-size-within = at-if1 .before in
+    let at-loop = at-size-within .before .before .before in
     let l = at-loop .loop in
-    value-skipped _ (passed-last (l .inv .2) (at-command-size .command-size .ensures) (at-if1 .if1 .left) (at-if2 .if2 .left) (c .before .open-behind .ensures) (c .if3 .taken))
+    value-skipped _ (passed-last (l .inv .2) (at-size-within .size-within .ensures) (at-if1 .if1 .left) (at-if2 .if2 .left) (c .before .open-behind .ensures) (c .if3 .taken))
 
 loop-less : tie.Need-loop-less Inv-loop μ-loop
 loop-less c = omega arith
@@ -55,8 +55,8 @@ loop-again : tie.Need-loop-again Inv-loop μ-loop
 loop-again c =
     let at-if2 = c .before .before in
     let at-if1 = at-if2 .before in
-    let at-command-size = at-if1 .before in
-    let at-loop = at-command-size .before .before .before in
+    let at-size-within = at-if1 .before in
+    let at-loop = at-size-within .before .before .before in
     let at-entry = at-loop .before .before in
     let tape = at-entry .args .tape .now in
     let l = at-loop .loop in
@@ -64,7 +64,7 @@ loop-again c =
       omega arith,
       omega (arith, behind .ensures, open-behind-le (getD tape (l .i) 0) (l .levels)),
       passed-more (l .inv .2)
-          (at-command-size .command-size .ensures) (at-if1 .if1 .left) (at-if2 .if2 .left) (behind .ensures) (c .if3 .left),
+          (at-size-within .size-within .ensures) (at-if1 .if1 .left) (at-if2 .if2 .left) (behind .ensures) (c .if3 .left),
     )
 
 returns-4 : tie.Need-returns-4 Inv-loop μ-loop
@@ -78,7 +78,7 @@ skip-value-spec =
     μ-loop
     loop-holds
     shared-slice-read-code
-    command-size-requires
+    size-within-requires
     returns
     sub-if2
     returns-2
