@@ -1,2 +1,3 @@
 pub mod Operands
 pub mod Lengths
+pub mod Rows

@@ -1,0 +1,51 @@
+-- Sizes packed in rows, computed for each code.
+--     no-row     from the code 60 on there is no command
+--     digit      a row's digit, found by shifts, is its code's size
+-- Assumes nothing.
+use mathlib.Core.Path.{_≡_, refl, sym, ap, subst, _∙_}
+use mathlib.Core.Bool.{Bool, true, false, _&&_}
+use mathlib.Core.Logic.{⊎-elim, _⊎_, inl, inr}
+use Prim.Native.Nat.{ℕ, zero, suc, _+_, _-_, _*_, _/_, _%_, _^_, _≤_, _<_}
+use native.Mathlib.Omega.{arith}
+use lib.Dec.{T, eqb, eqb→eq}
+use Rattle.text.proofs.Sequences.{both}
+use Rattle.commands.specs.Sizes.{rootCommands, sizeIn, commandSize, packed, rowOf}
+
+allBelow : (ℕ → Bool) → ℕ → Bool
+allBelow p zero = true
+allBelow p (suc n) = p n && allBelow p n
+
+last-or-below : (k n : ℕ) → k < suc n → (k ≡ n) ⊎ (k < n)
+last-or-below zero zero h = inl refl
+last-or-below zero (suc n) h = inr (omega arith)
+last-or-below (suc k) zero h = absurd (omega arith)
+last-or-below (suc k) (suc n) h = ⊎-elim (λ e. inl (ap suc e)) (λ l. inr (omega arith)) (last-or-below k n (omega arith))
+
+each : (p : ℕ → Bool) (n k : ℕ) → allBelow p n ≡ true → k < n → p k ≡ true
+unfolding allBelow
+each p zero k h below = absurd (omega arith)
+each p (suc n) k h below =
+    let t = both (p n) (allBelow p n) h in
+    ⊎-elim (λ e. ap p e ∙ t .0) (λ l. each p n k (t .1) l) (last-or-below k n below)
+
+same : (x y : ℕ) → eqb x y ≡ true → x ≡ y
+same x y h = eqb→eq x y (subst T (sym h) tt)
+
+abbrev rowLess : ℕ → Bool
+rowLess k = eqb (rowOf (6 + k)) 0
+
+pub no-row : (h : ℕ) → 6 ≤ h → h < 16 → 0 ≡ rowOf h
+unfolding allBelow rowOf packed commandSize sizeIn rootCommands
+no-row h low high =
+    let split : h ≡ 6 + (h - 6) = omega arith in
+    sym (ap rowOf split ∙ same (rowOf (6 + (h - 6))) 0 (each rowLess 10 (h - 6) refl (omega arith)))
+
+abbrev digitOf : ℕ → ℕ
+digitOf code = rowOf (code / 16) / 2 ^ (code * 16 % 256 / 4) * 2 ^ 60 % 2 ^ 64 / 2 ^ 60
+
+abbrev fits : ℕ → Bool
+fits code = eqb (digitOf code) (commandSize code)
+
+pub digit : (code : ℕ) → code < 256 → rowOf (code / 16) / 2 ^ (code * 16 % 256 / 4) * 2 ^ 60 % 2 ^ 64 / 2 ^ 60 ≡ commandSize code
+unfolding allBelow rowOf packed commandSize sizeIn rootCommands
+digit code below = same (digitOf code) (commandSize code) (each fits 256 code refl below)
