@@ -16,7 +16,7 @@ ROOT = os.path.dirname(os.path.dirname(os.path.abspath(__file__)))
 sys.path.insert(0, os.path.join(ROOT, "tests", "edits"))
 from functions import HEAD  # noqa: E402
 
-DECLARED = re.compile(r"^(?:  )?(?:(?:abbrev|unfoldable|pub|data|record|mutual|private) )*(\S+) ?:(?= )", re.M)
+DECLARED = re.compile(r"^(?:  )?(?:(?:abbrev|unfoldable|pub|data|record|mutual|private) )*(\S+) ?:(?=\s)", re.M)
 KINDS = [
     ("definitions", r"crates/\w+/specs/"),
     ("code and contracts", r"crates/(?!\w+_test/|replay/)\w+/src/"),

@@ -1,9 +1,11 @@
 // Runs the vectors of standard input through the crates `text` and `tape`. A vector is a line `OPERATION OPERANDS = EXPECTED   # origin`; what is
 // computed from the operands has to be what stands behind the equals sign. Lines without one are passed. A line that differs is printed, with its
-// number and what was computed. Then random texts, whose checksum tests/utf8_checksum.py computes by another decoder.
+// number and what was computed. Then random texts and numbers, whose checksums expected.py computes by Python's own decoder and
+// conversion.
 ghost use Prim.Native.Nat.{_+_, _<_, _≤_, _^_};
 
 mod making;
+mod numbers;
 mod random;
 mod tape_answers;
 mod text_answers;
@@ -197,5 +199,12 @@ fn main() {
     print_number(sums.well_formed);
     print(b" well-formed, checksum ");
     print_number(sums.checksum);
+    print(b"\n");
+    let numbers = numbers::run(100000);
+    print_number(numbers.numbers);
+    print(b" numbers, ");
+    print_number(numbers.differ);
+    print(b" differ, checksum ");
+    print_number(numbers.checksum);
     print(b"\n");
 }

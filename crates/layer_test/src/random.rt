@@ -1,4 +1,4 @@
-// Random texts, many of them nearly UTF-8, and a checksum of where each stops being it. tests/utf8_checksum.py draws the same ones.
+// Random texts, many of them nearly UTF-8, and a checksum of where each stops being it. expected.py draws the same ones.
 ghost use Prim.Native.Nat.{_+_, _<_, _≤_, _^_};
 use text::bytes::Found;
 use text::utf8::first_ill_formed;
@@ -21,8 +21,8 @@ struct Drawn {
     answer: u64,
 }
 
-// A linear congruential generator; its upper half is used.
-fn next(state: u64) -> u64
+// A linear congruential generator; of its draws, texts use the upper half.
+pub fn next(state: u64) -> u64
     requires { ⌜ state < 2 ^ 32 ⌝ }
     ensures { λ r. ⌜ r < 2 ^ 32 ⌝ }
 {

@@ -2,11 +2,12 @@
 --     sets-append, sets-out, sets-nil     a run is its parts in turn; past the end, and into an empty target, nothing is stored
 --     sets-room                           what a target holds that has room for the run
 --     wrote-nothing, wrote-then           the empty run, and one run after another
+--     wrote-as                            the same run, written otherwise
 --     wrote-length, wrote-nil             the target keeps its length; an empty one stays empty
 --     wrote-small, wrote-count            the place after the run: within the limit, and exact below it
 --     wrote-room                          what the target holds, where the place after is within it
 -- Assumes nothing.
-use mathlib.Core.Path.{_≡_, refl, sym, ap, _∙_}
+use mathlib.Core.Path.{_≡_, refl, sym, ap, subst, _∙_}
 use mathlib.Core.Logic.{⊎-elim, _⊎_, inl, inr}
 use mathlib.Core.List.{List, [], _∷_, _++_}
 use Prim.Native.Nat.{ℕ, zero, suc, _+_, _≤_, _<_, _^_, zero-le, suc-le-suc}
@@ -36,6 +37,9 @@ sets-room o at bs h = sets-eq bs o at h
 
 pub wrote-nothing : (o : List ℕ) (at : ℕ) → at ≤ 2 ^ 63 → Wrote o o at at []
 wrote-nothing o at h = record { next = omega arith; holds = refl }
+
+pub wrote-as : {o o′ bs bs′ : List ℕ} {at r : ℕ} → bs ≡ bs′ → Wrote o o′ at r bs → Wrote o o′ at r bs′
+wrote-as {o} {o′} {bs} {bs′} {at} {r} same w = subst (λ b. Wrote o o′ at r b) same w
 
 le-or-lt : (a b : ℕ) → (a ≤ b) ⊎ (b < a)
 le-or-lt zero b = inl zero-le

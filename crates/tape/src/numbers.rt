@@ -9,14 +9,14 @@ use text::spans::Span;
 fn word(a: u8, b: u8) -> u16
     ensures { λ r. ⌜ r ≡ a + b * 256 ⌝ }
 {
-    (a as u16) + (b as u16) * 256
+    (a as u16) | ((b as u16) << 8)
 }
 
 // The number of four bytes, the lowest first.
 fn long(a: u8, b: u8, c: u8, d: u8) -> u32
     ensures { λ r. ⌜ r ≡ a + b * 256 + c * 65536 + d * 16777216 ⌝ }
 {
-    (a as u32) + (b as u32) * 256 + (c as u32) * 65536 + (d as u32) * 16777216
+    (a as u32) | ((b as u32) << 8) | ((c as u32) << 16) | ((d as u32) << 24)
 }
 
 // The number of the two bytes from `at` on.

@@ -32,7 +32,7 @@ pub fn put_two(out: &mut [u8], at: usize, a: u8, b: u8) -> usize
 pub fn put_u16(out: &mut [u8], at: usize, x: u16) -> usize
     ensures { λ r. ⌜ Wrote (now (out .entry)) (now (out .exit)) at r (u16Bytes x) ⌝ }
 {
-    put_two(out, at, (x % 256) as u8, (x / 256) as u8)
+    put_two(out, at, ((x << 8) >> 8) as u8, (x >> 8) as u8)
 }
 
 // n bytes from `at` on are within a target of this length.
@@ -69,10 +69,10 @@ pub fn put_u32(out: &mut [u8], at: usize, x: u32) -> usize
     put_four(
         out,
         at,
-        (x % 256) as u8,
-        (x / 256 % 256) as u8,
-        (x / 65536 % 256) as u8,
-        (x / 16777216) as u8,
+        ((x << 24) >> 24) as u8,
+        ((x << 16) >> 24) as u8,
+        ((x << 8) >> 24) as u8,
+        (x >> 24) as u8,
     )
 }
 
@@ -82,10 +82,10 @@ pub fn put_span(out: &mut [u8], at: usize, s: Span) -> usize
     put_four(
         out,
         at,
-        (s.start % 256) as u8,
-        (s.start / 256) as u8,
-        (s.len % 256) as u8,
-        (s.len / 256) as u8,
+        ((s.start << 8) >> 8) as u8,
+        (s.start >> 8) as u8,
+        ((s.len << 8) >> 8) as u8,
+        (s.len >> 8) as u8,
     )
 }
 
