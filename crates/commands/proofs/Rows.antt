@@ -1,6 +1,6 @@
 -- Sizes packed in rows, computed for each code.
---     no-row     from the code 60 on there is no command
---     digit      a row's digit, found by shifts, is its code's size
+--     at-half, no-row     the row that was chosen, by the code's upper half; from the code 60 on there is no command
+--     digit               a row's digit, found by shifts, is its code's size
 -- Assumes nothing.
 use mathlib.Core.Path.{_≡_, refl, sym, ap, subst, _∙_}
 use mathlib.Core.Bool.{Bool, true, false, _&&_}
@@ -9,7 +9,9 @@ use Prim.Native.Nat.{ℕ, zero, suc, _+_, _-_, _*_, _/_, _%_, _^_, _≤_, _<_}
 use native.Mathlib.Omega.{arith}
 use lib.Dec.{T, eqb, eqb→eq}
 use Rattle.text.proofs.Sequences.{both}
-use Rattle.commands.specs.Sizes.{rootCommands, sizeIn, commandSize, packed, rowOf}
+use Rattle.commands.specs.Sizes.{rootCommands, sizeIn, commandSize}
+
+-- ---- a claim computed for every number below a bound
 
 allBelow : (ℕ → Bool) → ℕ → Bool
 allBelow p zero = true
@@ -31,21 +33,35 @@ each p (suc n) k h below =
 same : (x y : ℕ) → eqb x y ≡ true → x ≡ y
 same x y h = eqb→eq x y (subst T (sym h) tt)
 
+-- ---- rows
+
+-- n sizes from a code on as hexadecimal digits, the first one's last
+unfoldable pub packed : ℕ → ℕ → ℕ
+packed zero code = 0
+packed (suc n) code = commandSize code + 16 * packed n (suc code)
+
+-- the sixteen codes with this upper half
+unfoldable pub rowOf : ℕ → ℕ
+rowOf half = packed 16 (half * 16)
+
+pub at-half : (k : ℕ) {row half : ℕ} → half ≡ k → row ≡ rowOf k → row ≡ rowOf half
+at-half k e r = r ∙ ap rowOf (sym e)
+
 abbrev rowLess : ℕ → Bool
 rowLess k = eqb (rowOf (6 + k)) 0
 
-pub no-row : (h : ℕ) → 6 ≤ h → h < 16 → 0 ≡ rowOf h
+pub no-row : (half : ℕ) {row : ℕ} → 6 ≤ half → half < 16 → row ≡ 0 → row ≡ rowOf half
 unfolding allBelow rowOf packed commandSize sizeIn rootCommands
-no-row h low high =
-    let split : h ≡ 6 + (h - 6) = omega arith in
-    sym (ap rowOf split ∙ same (rowOf (6 + (h - 6))) 0 (each rowLess 10 (h - 6) refl (omega arith)))
+no-row half low high r =
+    let split : half ≡ 6 + (half - 6) = omega arith in
+    r ∙ sym (ap rowOf split ∙ same (rowOf (6 + (half - 6))) 0 (each rowLess 10 (half - 6) refl (omega arith)))
 
-abbrev digitOf : ℕ → ℕ
-digitOf code = rowOf (code / 16) / 2 ^ (code * 16 % 256 / 4) * 2 ^ 60 % 2 ^ 64 / 2 ^ 60
+abbrev digitOf : ℕ → ℕ → ℕ
+digitOf row code = row / 2 ^ (code * 16 % 256 / 4) * 2 ^ 60 % 2 ^ 64 / 2 ^ 60
 
 abbrev fits : ℕ → Bool
-fits code = eqb (digitOf code) (commandSize code)
+fits code = eqb (digitOf (rowOf (code / 16)) code) (commandSize code)
 
-pub digit : (code : ℕ) → code < 256 → rowOf (code / 16) / 2 ^ (code * 16 % 256 / 4) * 2 ^ 60 % 2 ^ 64 / 2 ^ 60 ≡ commandSize code
+pub digit : (row code : ℕ) → code < 256 → row ≡ rowOf (code / 16) → row / 2 ^ (code * 16 % 256 / 4) * 2 ^ 60 % 2 ^ 64 / 2 ^ 60 ≡ commandSize code
 unfolding allBelow rowOf packed commandSize sizeIn rootCommands
-digit code below = same (digitOf code) (commandSize code) (each fits 256 code refl below)
+digit row code below r = ap (λ (n : ℕ). digitOf n code) r ∙ same (digitOf (rowOf (code / 16)) code) (commandSize code) (each fits 256 code refl below)

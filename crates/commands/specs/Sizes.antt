@@ -1,5 +1,5 @@
 -- How many bytes of its tape a command takes: one for its code, and its operands. What is none takes 0.
-use Prim.Native.Nat.{ℕ, zero, suc, _+_, _*_}
+use Prim.Native.Nat.{ℕ}
 use mathlib.Core.Bool.{cond}
 use mathlib.Core.List.{List, [], _∷_}
 use lib.Dec.{eqb}
@@ -90,15 +90,6 @@ sizeIn (c ∷ cs) code = cond (eqb code (c .0)) (c .1) (sizeIn cs code)
 -- how many bytes the command of the root tape with this code takes; 0 where none begins with it
 unfoldable pub commandSize : ℕ → ℕ
 commandSize code = sizeIn rootCommands code
-
--- n sizes from a code on as hexadecimal digits, the first one's last
-unfoldable pub packed : ℕ → ℕ → ℕ
-packed zero code = 0
-packed (suc n) code = commandSize code + 16 * packed n (suc code)
-
--- the sixteen codes with this upper half
-unfoldable pub rowOf : ℕ → ℕ
-rowOf half = packed 16 (half * 16)
 
 -- ---- by what was read: the opening tape. What is no command, by its place or by its operands, takes 0
 

@@ -1,7 +1,6 @@
 // How many bytes of its tape a command takes: one for its code, and its operands.
 ghost use mathlib.Core.Path.{_≡_};
-ghost use Prim.Native.Nat.{_<_};
-ghost use Rattle.commands.specs.Sizes.{commandSize, rowOf};
+ghost use Rattle.commands.specs.Sizes.{commandSize};
 
 // ---- what operands take
 
@@ -39,7 +38,7 @@ pub const WITH_PLACE: usize = BARE + PLACE;
 
 // ---- what the commands of the root tape take, by code
 
-// Sixteen codes in a row, a hexadecimal digit for each, the first code's the last digit; 0 where there is no command.
+// Sixteen codes in a row, a hexadecimal digit for each, the first code's the last digit; 0 where there is no command. `rootCommands` (specs/Sizes) names them.
 const ROW_0: u64 = 0x0000_0000_0000_0220;
 
 const ROW_1: u64 = 0x1100_0000_0000_0099;
@@ -52,12 +51,12 @@ const ROW_4: u64 = 0x0000_0000_0000_1351;
 
 const ROW_5: u64 = 0x0000_0000_0000_0035;
 
-// The row of the codes with this upper half.
-fn row(half: u8) -> u64
-    requires { ⌜ half < 16 ⌝ }
-    ensures { λ r. ⌜ r ≡ rowOf half ⌝ }
+// How many bytes the command of the root tape with this code takes; 0 where there is none. Shifts find the digit in a row: a match of all codes is called and
+// jumps, and a table that is a constant would be made anew at each call.
+pub fn command_size(code: u8) -> usize
+    ensures { λ r. ⌜ r ≡ commandSize code ⌝ }
 {
-    match half {
+    let row: u64 = match code >> 4 {
         0 => ROW_0,
         1 => ROW_1,
         2 => ROW_2,
@@ -65,14 +64,7 @@ fn row(half: u8) -> u64
         4 => ROW_4,
         5 => ROW_5,
         _ => 0,
-    }
-}
-
-// How many bytes the command of the root tape with this code takes; 0 where there is none. Shifts find the digit in a row: a match of all codes is called and
-// jumps, and a table that is a constant would be made anew at each call.
-pub fn command_size(code: u8) -> usize
-    ensures { λ r. ⌜ r ≡ commandSize code ⌝ }
-{
+    };
     let digit = (code << 4) >> 2;
-    (((row(code >> 4) >> digit) << 60) >> 60) as usize
+    (((row >> digit) << 60) >> 60) as usize
 }
