@@ -5,7 +5,7 @@
  *      1  text or tape over 65,535 bytes                              65,535
  *      2  the text is not UTF-8                                       start of the first ill-formed sequence
  *      3  command or operand not allowed here, or the tape ends       command's offset, or tape length
- *      4  span outside the text, cutting a character, or empty name   command's offset
+ *      4  span that ends beyond the text                              command's offset
  *      5  classic, and a pragma in force has a byte over 7F           that byte's offset in the text
  *      6  65th level of elements and fragments                        command's offset
  *      7  ampersand in a string or a text                             command's offset
@@ -14,6 +14,10 @@
  *     10  target (or state) has no room                               bytes that this entry would write
  *     11  notice target has no room                                   the same, of notices
  *     12  forged: no state's bytes, or no state of this text          0
+ *     13  span that cuts a character                                  command's offset
+ *     14  empty name                                                  command's offset
+ *
+ * Of several faults of one command the first of 3, 4, 13, 14, 6, 7, 8 is told, whichever of its spans has it.
  *
  * What a refusal leaves: the state's bytes and every target as they were, in jsx_open, jsx_root, jsx_records, jsx_settings and jsx_source. jsx_roots and jsx_job lower the roots before the
  * one that is refused, and leave these: `taken` says how many. So after 10 or 11 from jsx_roots call it again with more room and with the list cut behind its first

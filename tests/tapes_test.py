@@ -37,10 +37,14 @@ end"""
 REFUSALS = [
     (1, 65535, ["65,535 bytes"]),
     (3, 40, ["ends too soon", "byte 40, where the root tape ends"]),
-    (4, 28, ["outside the text", "line 7 of its listing: text 0+9", "fragment that begins at line 4, column 7"]),
+    (4, 28, ["ends beyond the text", "line 7 of its listing: text 0+9", "fragment that begins at line 4, column 7"]),
     (7, 34, ["ampersand", "line 9 of its listing: text 0+1", "element that begins at line 3, column 5"]),
     (10, 17, ["17 bytes"]),
+    (13, 28, ["within a character", "line 7 of its listing: text 0+9"]),
+    (14, 13, ["a name is empty", "line 4 of its listing: tag 0+1", "element that begins at line 3, column 5"]),
 ]
+# spans of U+00E9, two bytes, and what a listing says of each
+SPANS = [("text 0+2", '"é"'), ("text 0+3", "outside the text"), ("text 0+1", "cuts a character"), ("text 1+1", "cuts a character"), ("text 2+0", '""')]
 # words of a command that is wrong, and what is said of it
 ERRORS = [
     (["list", "no such file"], "no such file: No such file or directory"),
@@ -59,6 +63,9 @@ def explanations():
         for word in words:
             if word not in said:
                 raise SystemExit(f"{number} {figure}: no {word!r} in {said!r}")
+    for line, said in SPANS:
+        if tapes.listing(tapes.made([line]), "é".encode()) != [f"{line:<40}; {said}"]:
+            raise SystemExit(f"{line}: not {said!r}")
     for words, said in ERRORS:
         done = subprocess.run([sys.executable, TOOL, *words], capture_output=True, text=True)
         if done.returncode != 1 or not done.stderr.startswith(said):

@@ -147,6 +147,8 @@ def word(text, data):
         return ""
     if start + length > len(text):
         return "outside the text"
+    if any(place < len(text) and text[place] & 0xC0 == 0x80 for place in (start, start + length)):
+        return "cuts a character"
     return '"' + text[start:start + length].decode("utf-8", "backslashreplace").replace("\n", "\\n").replace("\r", "\\r") + '"'
 
 
@@ -257,7 +259,7 @@ REFUSALS = {
     1: "text or tape has over 65,535 bytes",
     2: "the text is not UTF-8: an ill-formed sequence begins at byte {figure} of it",
     3: "a command or an operand is not allowed here, or the tape ends too soon",
-    4: "a span lies outside the text or cuts a character, or a name is empty",
+    4: "a span ends beyond the text",
     6: "this element or fragment is on the 65th level",
     7: "there is an ampersand in the text or string",
     8: "the line or the column is 4,294,967,295",
@@ -265,8 +267,10 @@ REFUSALS = {
     10: "the call target has no room for the {figure} bytes that the root's calls take",
     11: "the notice target has no room for the {figure} bytes of the root's notices",
     12: "the state is not one that this text and these targets can have",
+    13: "a span begins or ends within a character of the text",
+    14: "a name is empty",
 }
-ON_TAPE = {3, 4, 6, 7, 8}
+ON_TAPE = {3, 4, 6, 7, 8, 13, 14}
 
 
 def explained(root, text, refusal, figure):

@@ -1,8 +1,8 @@
 #!/usr/bin/env python3
 """Makes a file of cases: python3 generate.py FILE [--cases N] [--seed N] [--damaged PERCENT] [--roots N] [--no-grid]
 
-First the grid, every flag byte with every shape of `grid`, and the cases of `limits`; then N cases of chance. Each case is a valid job with a series of one
-to N (six) valid roots; PERCENT of the cases of chance are then damaged. The same numbers give the same file.
+First the grid, every flag byte with every shape of `grid`, the cases of `limits` and those of `span_faults`; then N cases of chance. Each case is a valid job with a
+series of one to N (six) valid roots; PERCENT of the cases of chance are then damaged. The same numbers give the same file.
 """
 
 import argparse
@@ -385,6 +385,55 @@ def limits(most):
     yield job, b"", [b"", front, front + b"\x11", half(0)][:most]
 
 
+def span_faults(step):
+    """Every command that has a span, with spans that have each fault of theirs and each pair of faults; in commands with two spans every two of these."""
+    text = b"a&" + "é".encode() + b"&"
+    good, outside, over_ascii = pair(0, 1), pair(5, 1), pair(2, 2)
+    kinds = {
+        "good": good,
+        "outside": outside,
+        "cut at its end": pair(2, 1),
+        "cut at its start": pair(3, 1),
+        "empty": pair(5, 0),
+        "outside, cut": pair(3, 9),
+        "outside, empty": pair(6, 0),
+        "cut, empty": pair(3, 0),
+        "ampersand": pair(1, 1),
+        "ampersand, outside": pair(1, 9),
+        "ampersand, cut": pair(1, 2),
+    }
+    spans = list(kinds.values())
+    z, head = u32(0) + u32(0), b"\x01\x00\x02\x03"
+    element = head + b"\x10" + z + b"\x22"
+    # what stands before a command with a span and behind it
+    places = {
+        0x20: (head + b"\x10" + z, b"\x1e\x1f"),
+        0x21: (head + b"\x10" + z, b"\x1e\x1f"),
+        0x25: (element, b"\x1e\x1f"),
+        0x30: (element, b"\x40\x1e\x1f"),
+        0x36: (element + b"\x33\x01\x00", b"\x35\x1e\x1f"),
+        0x41: (element + b"\x30" + good, b"\x1e\x1f"),
+        0x50: (head + b"\x11" + z, b"\x1f"),
+    }
+    commands = [(*places[code], bytes([code]) + (u16(2) if code == 0x36 else b"") + span) for code in places for span in spans]
+    for code in (0x23, 0x31):
+        before, behind = places[0x20 if code == 0x23 else 0x30]
+        commands += [(before, behind, bytes([code]) + first + second) for first in spans for second in spans]
+    roots = [before + command + behind for before, behind, command in commands]
+    roots += [before + command[:-1] for before, _, command in commands]
+    for start in range(0, len(roots), step):
+        yield b"\x61\x81\x00", text, roots[start:start + step]
+    for code in (0x62, 0x63, 0x64, 0x60):
+        for span in spans:
+            yield b"\x61\x09\x00" + bytes([code]) + span, text, []
+            yield b"\x61\x09\x00" + bytes([code]) + span[:-1], text, []
+    # a faulty option before another, and before a comment; 5 behind both
+    for first, second in ((0x62, 0x63), (0x62, 0x60), (0x63, 0x64), (0x60, 0x60)):
+        for a in (good, outside, pair(3, 1), over_ascii):
+            for b in (good, outside, pair(3, 1), over_ascii):
+                yield b"\x61\x09\x00" + bytes([first]) + a + bytes([second]) + b, text, []
+
+
 def main():
     parser = argparse.ArgumentParser()
     parser.add_argument("file")
@@ -398,7 +447,7 @@ def main():
     maker = Maker(chance, arguments.roots)
     with open(arguments.file, "wb") as file:
         if not arguments.no_grid:
-            for case in (*grid(arguments.roots), *limits(arguments.roots)):
+            for case in (*grid(arguments.roots), *limits(arguments.roots), *span_faults(arguments.roots)):
                 file.write(pack(*case))
         for _ in range(arguments.cases):
             case = maker.case()

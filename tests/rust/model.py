@@ -41,6 +41,15 @@ def check_lengths(text, tape):
         raise Refused(2, ill)
 
 
+def span_faults(text, span, is_name):
+    """All that is wrong with a span, by number: it ends beyond the text, it cuts a character, it is an empty name."""
+    def cuts(place):
+        return place < len(text) and text[place] & 0xC0 == 0x80
+
+    start, end = span[0], span[0] + span[1]
+    return [4] * (end > len(text)) + [13] * (cuts(start) or cuts(end)) + [14] * (is_name and span[1] == 0)
+
+
 class Tape:
     """Reads one command at a time. `operands` is a string of b (u8), e (u16), w (u32), S (span), N (name)."""
 
@@ -71,17 +80,11 @@ class Tape:
                 values.append(int.from_bytes(raw, "little"))
         if bad and bad(*values):
             raise Refused(3, self.start)
-        for kind, value in zip(kinds, values):
-            if kind in "SN" and (self.is_outside(value) or kind == "N" and value[1] == 0):
-                raise Refused(4, self.start)
+        spans = [(kind, value) for kind, value in zip(kinds, values) if kind in "SN"]
+        for number in (4, 13, 14):  # the number decides, not which of two spans has the fault
+            if any(number in span_faults(self.text, span, kind == "N") for kind, span in spans):
+                raise Refused(number, self.start)
         return values
-
-    def is_outside(self, span):
-        def cuts(place):
-            return place < len(self.text) and self.text[place] & 0xC0 == 0x80
-
-        start, end = span[0], span[0] + span[1]
-        return end > len(self.text) or cuts(start) or cuts(end)
 
     def letters(self):
         (span,) = self.operands("S")

@@ -23,6 +23,7 @@ JSX, EMIT, SELF, PEN, STRINGS = "jsx/src/jsx_impl.rt", "emit/src/jsx_impl.rt", "
 PARTS, LINES, ROOTS, CHARS, LOWERING = "parts/src/jsx_impl.rt", "jsx_text/src/lib.rt", "root_check/src/check.rt", "text/src/chars.rt", "lowering/src/lib.rt"
 COMMENTS, SETTINGS, OPTIONS, PRAGMA = "comments/src/lib.rt", "settings/src/jsx_impl.rt", "option_values/src/lib.rt", "pragma/src/lib.rt"
 GROUPS, RECORDS, FINDING, NOTICES = "records/src/groups.rt", "records/src/record_tape.rt", "records/src/finding.rt", "pen/src/diagnostics.rt"
+REFUSALS = "tape/src/refusal.rt"
 
 FAULTS = [
     ("a sole spread child is bare", PARTS, "    if spread { 1 } else { 0 }", "    if spread { 0 } else { 0 }"),
@@ -85,6 +86,9 @@ FAULTS = [
     ("the file name is bound anew", FINDING, "            Import::FileName => true,", "            Import::FileName => false,"),
     ("the room for notices is not looked at", LOWERING, "    if notice_room - state.notices < pen.notices {", "    if notice_room < pen.notices {"),
     ("a target can't be filled to the end", LOWERING, "    if call_room - state.calls < pen.calls {", "    if call_room - state.calls <= pen.calls {"),
+    ("13 and 14 are swapped", REFUSALS, "        Fault::Cuts => 13,\n        Fault::EmptyName => 14,", "        Fault::Cuts => 14,\n        Fault::EmptyName => 13,"),
+    ("the first span's fault is told", ROOTS, "        Bounds::Cuts => match b {", "        Bounds::Cuts => match a {"),
+    ("an empty name is told before a span that cuts", ROOTS, "            Bounds::Cuts => b,", "            Bounds::Cuts => a,"),
 ]
 
 

@@ -4,8 +4,8 @@
 CASES as generate.py wrote them, ORACLE and OTHER two programs' answers to them; LIST gets the cases that were chosen, ANSWERS their
 answers. Cases in which the two differ are an error. What a case covers: each command of its tapes under each kind of settings, each pair of
 neighbouring commands on the call tape, attributes alone and in pairs, children by their number, lines of texts by what stands at their ends, pragmas of
-comments by what stands around them, pragmas by their parts, each refusal with the command it speaks of, each setting, each form of the record tape. Short cases are
-taken first. The settings, calls, notices and records are the Rust's; the numbers and figures of refusals, which the Rust doesn't have, are OTHER's.
+comments by what stands around them, pragmas by their parts, each refusal with the command it speaks of and all faults of that command's spans, each setting, each form
+of the record tape. Short cases are taken first. The settings, calls, notices and records are the Rust's; the numbers and figures of refusals, which the Rust doesn't have, are OTHER's.
 """
 
 import heapq
@@ -15,7 +15,7 @@ import sys
 
 from cases import pack, unpack
 from compare import agrees, cases
-from model import ENDS, RESERVED, WHITE, read_root
+from model import ENDS, RESERVED, WHITE, read_root, span_faults
 
 WHITE = "".join(WHITE)
 
@@ -25,6 +25,9 @@ CALLS = {0x80: 1, 0x83: 4, 0x86: 2, 0x87: 2, 0x89: 2, 0x8B: 4, 0x94: 2, 0x96: 1,
 ROOTS = {0x01: 1, 0x02: 1, 0x10: 8, 0x11: 8, 0x20: 4, 0x21: 4, 0x23: 8, 0x25: 4, 0x30: 4, 0x31: 8, 0x32: 2, 0x33: 2, 0x34: 2,
          0x36: 6, 0x41: 4, 0x42: 2, 0x50: 4, 0x51: 2}
 OPENINGS = {0x60, 0x61, 0x62, 0x63, 0x64}
+# where a command's spans begin, and which are names
+SPANS = {0x20: (1,), 0x21: (1,), 0x23: (1, 5), 0x25: (1,), 0x30: (1,), 0x31: (1, 5), 0x36: (3,), 0x41: (1,), 0x50: (1,), 0x60: (1,), 0x62: (1,), 0x63: (1,), 0x64: (1,)}
+NAMES = {0x20, 0x21, 0x23, 0x25, 0x30, 0x31}
 SHORT = {0x01, 0x02, 0x80, 0x98, 0x99, 0x9B, 0xA0}
 
 
@@ -111,9 +114,11 @@ def spoken_of(number, figure, text, tape, known):
         return text[figure] >> 4
     if figure >= len(tape):
         return "end"
-    if number == "4" and tape[figure] != 0x36:
-        return tape[figure], tape[figure + 3:figure + 5] == b"\x00\x00"
-    return tape[figure] if tape[figure] in known else "other"
+    code = tape[figure]
+    if number in ("4", "13", "14"):
+        spans = [tuple(int.from_bytes(tape[at:at + 2], "little") for at in (figure + place, figure + place + 2)) for place in SPANS[code]]
+        return code, *(tuple(span_faults(text, span, code in NAMES)) for span in spans)
+    return code if code in known else "other"
 
 
 def covered(job, text, roots, answer):

@@ -1,3 +1,4 @@
+pub mod FaultOrder
 pub mod ReadBack
 pub mod Counting
 pub mod Numbering

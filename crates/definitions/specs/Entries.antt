@@ -87,7 +87,7 @@ fitted s callRoom noticeRoom l =
     (refuse (ltb (noticeRoom - s .notices) (length (l .notices))) (refusal.NoticeSpace (length (l .notices)))
     (accepted l)))
 
--- "Root: 1, 2, 12, then 3, 4, 6, 7, 8 at the earliest command, in that order within one, then 9, 10, 11."
+-- "Root: 1, 2, 12, then 3, 4, 6, 7, 8 at the earliest command, in that order within one, then 9, 10, 11", with 13 "directly after 4" and 14 "directly after 13".
 unfoldable pub judgeRoot : List ℕ → State → List ℕ → ℕ → ℕ → Judged Lowered
 judgeRoot text s tape callRoom noticeRoom =
     judgeState (tooLong text || tooLong tape) text (not (sound text s) || overfilled s callRoom noticeRoom)

@@ -223,6 +223,28 @@ readings =
     -- 7: an ampersand, also in a key that is never lowered
     ∷ (prints (hex "61 81 00") (ascii "akey&") (hex "01 00 02 03 10 00 00 00 00 00 00 00 00 20 00 00 01 00 30 01 00 03 00 41 04 00 01 00 30 01 00 03 00 42 07 00 1e 1f")
     gives output (refusedWith 7 23))
+    -- which span was bad, over the two bytes of U+00E9. One span with two faults: beyond the text and cutting is 4, an empty name beyond the text is 4, one within a
+    -- character is 13
+    ∷ (prints (hex "61 81 00") (hex "c3 a9") (hex "01 00 02 03 10 00 00 00 00 00 00 00 00 20 01 00 09 00 1e 1f")
+    gives output (refusedWith 4 13))
+    ∷ (prints (hex "61 81 00") (hex "c3 a9") (hex "01 00 02 03 10 00 00 00 00 00 00 00 00 20 03 00 00 00 1e 1f")
+    gives output (refusedWith 4 13))
+    ∷ (prints (hex "61 81 00") (hex "c3 a9") (hex "01 00 02 03 10 00 00 00 00 00 00 00 00 20 01 00 00 00 1e 1f")
+    gives output (refusedWith 13 13))
+    -- two spans: the number decides, not which comes first. Cutting and beyond, empty and beyond, empty and cutting, empty and in order
+    ∷ (prints (hex "61 81 00") (hex "c3 a9") (hex "01 00 02 03 10 00 00 00 00 00 00 00 00 23 00 00 01 00 00 00 03 00 1e 1f")
+    gives output (refusedWith 4 13))
+    ∷ (prints (hex "61 81 00") (hex "c3 a9") (hex "01 00 02 03 10 00 00 00 00 00 00 00 00 23 00 00 00 00 00 00 03 00 1e 1f")
+    gives output (refusedWith 4 13))
+    ∷ (prints (hex "61 81 00") (hex "c3 a9") (hex "01 00 02 03 10 00 00 00 00 00 00 00 00 23 00 00 00 00 00 00 01 00 1e 1f")
+    gives output (refusedWith 13 13))
+    ∷ (prints (hex "61 81 00") (hex "c3 a9") (hex "01 00 02 03 10 00 00 00 00 00 00 00 00 23 00 00 00 00 00 00 02 00 1e 1f")
+    gives output (refusedWith 14 13))
+    -- a text that cuts a character and has an ampersand is 13; an opening's spans may be empty, and their faults go in tape order
+    ∷ (prints (hex "61 81 00") (hex "c3 a9 26") (hex "01 00 02 03 11 00 00 00 00 00 00 00 00 50 01 00 02 00 1f")
+    gives output (refusedWith 13 13))
+    ∷ (prints (hex "61 09 00 62 00 00 00 00 63 01 00 01 00 60 00 00 03 00") (hex "c3 a9") (hex "")
+    gives output (refusedWith 13 8))
     ∷ []
 
 -- ---- the claims

@@ -58,7 +58,7 @@ named Cuts p = stop fault.Cuts 0
 named Empty p = stop fault.EmptyName 0
 named Good p = p
 
--- of two spans of one command the fault that comes first
+-- of two spans of one command the fault whose number comes first: 4, 13, 14 (proofs/FaultOrder, `names-told`)
 unfoldable pub worse : Bounds → Bounds → Bounds
 worse Outside b = Outside
 worse Cuts Outside = Outside

@@ -5,6 +5,7 @@ pub mod Pragmas
 pub mod Opening
 pub mod Tree
 pub mod Reading
+pub mod Faults
 pub mod JsxText
 pub mod Calls
 pub mod Store

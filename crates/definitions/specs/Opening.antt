@@ -166,7 +166,7 @@ pragmasChecked text s =
     refuseAt (ifClassic (s .mode) (overAsciiIn text (s .options .pragma))) refusal.PragmaByte
     (refuseAt (ifClassic (s .mode) (overAsciiIn text (s .options .«pragma_frag»))) refusal.PragmaByte (accepted s))
 
--- "Opening: 1, 2, then 3 and 4 in tape order, 3 first within one command, then 5 (pragma before fragment)."
+-- "Opening: 1, 2, then 3 and 4 in tape order, 3 first within one command, then 5 (pragma before fragment)", with 13 "directly after 4"; nothing there is a name.
 unfoldable pub judgeOpening : List ℕ → List ℕ → Judged Settings
 judgeOpening text tape =
     judgeText (tooLong text || tooLong tape) text (read (readOpening text tape) (λ o. pragmasChecked text (settingsOf text (optionsOf text o))))

@@ -1,5 +1,5 @@
 -- docs/TAPES.md, "Root tape", "Grammar" and "Refusals": how a root tape is read as a tree, or where it is refused. Faults are told at the earliest command, within one
--- command 3, then 4, 6, 7, 8.
+-- command in the order 3, 4, 13, 14, 6, 7, 8 (Faults has it apart from any reading).
 use Prim.Native.Nat.{ℕ, zero, suc, _+_}
 use mathlib.Core.Bool.{Bool, true, false, cond, _||_}
 use mathlib.Core.List.{List, [], _∷_}

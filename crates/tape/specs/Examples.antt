@@ -9,7 +9,7 @@ use Rattle.text.specs.declared.spans.Span.{Span}
 use Rattle.tape.specs.declared.refusal.Fault.the-variants.{Grammar, Outside, Cuts, EmptyName, Depth, Ampersand, Position}
 use Rattle.tape.specs.declared.refusal.Refusal.the-variants.{TooLong, NotUtf8, Tape, PragmaByte, Bindings, Space, NoticeSpace, Forged}
 use Rattle.tape.specs.Numbers.{u16At, u32At, spanAt, u16Bytes, u32Bytes, spanBytes}
-use Rattle.tape.specs.Refusals.{faultNumber, numberOf, figureOf}
+use Rattle.tape.specs.Refusals.{faultNumber, faultOrder, numberOf, figureOf}
 use Rattle.tape.specs.Targets.{Wrote}
 
 abbrev pub span : ℕ → ℕ → Span
@@ -51,9 +51,14 @@ pub refusal-numbers :
     ∷ NoticeSpace 110
     ∷ Forged
     ∷ [])
-    ≡ 1 ∷ 2 ∷ 3 ∷ 4 ∷ 4 ∷ 4 ∷ 5 ∷ 6 ∷ 7 ∷ 8 ∷ 9 ∷ 10 ∷ 11 ∷ 12 ∷ []
+    ≡ 1 ∷ 2 ∷ 3 ∷ 4 ∷ 13 ∷ 14 ∷ 5 ∷ 6 ∷ 7 ∷ 8 ∷ 9 ∷ 10 ∷ 11 ∷ 12 ∷ []
 unfolding numberOf faultNumber
 refusal-numbers = refl
+
+-- docs/TAPES.md, "Within one command"
+pub order-by-number : map faultNumber faultOrder ≡ 3 ∷ 4 ∷ 13 ∷ 14 ∷ 6 ∷ 7 ∷ 8 ∷ []
+unfolding faultNumber
+order-by-number = refl
 
 pub refusal-figures :
     map figureOf

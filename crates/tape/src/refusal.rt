@@ -35,8 +35,8 @@ pub fn fault_number(f: Fault) -> u8
     match f {
         Fault::Grammar => 3,
         Fault::Outside => 4,
-        Fault::Cuts => 4,
-        Fault::EmptyName => 4,
+        Fault::Cuts => 13,
+        Fault::EmptyName => 14,
         Fault::Depth => 6,
         Fault::Ampersand => 7,
         Fault::Position => 8,

@@ -21,8 +21,8 @@ continues b = leb 0x80 b && leb b 0xbf
 unfoldable pub cutsAt : List ℕ → ℕ → Bool
 cutsAt text i = ltb i (length text) && continues (getD text i 0)
 
--- Refusal 4 (docs/TAPES.md, Refusals), "span outside text, cutting a character, or an empty name": each cause apart, the earlier before the later.
--- An empty span within a character cuts it.
+-- Refusals 4, 13 and 14 (docs/TAPES.md, Refusals), "a span that ends beyond the text", "one that cuts a character" and "an empty name": the first of them that a span has. An empty
+-- span within a character cuts it.
 unfoldable pub boundsOf : List ℕ → Span → Bounds
 boundsOf text s =
     cond (ltb (length text) (s .start + s .len)) Outside

@@ -8,7 +8,9 @@ pub enum Refusal {
     TooLong,
     NotUtf8 { at: usize },
     Command { at: usize },
-    Span { at: usize },
+    SpanOutside { at: usize },
+    SpanCuts { at: usize },
+    EmptyName { at: usize },
     PragmaByte { at: usize },
     Depth { at: usize },
     Ampersand { at: usize },
@@ -28,7 +30,7 @@ impl Refusal {
             1 => Refusal::TooLong,
             2 => Refusal::NotUtf8 { at: figure },
             3 => Refusal::Command { at: figure },
-            4 => Refusal::Span { at: figure },
+            4 => Refusal::SpanOutside { at: figure },
             5 => Refusal::PragmaByte { at: figure },
             6 => Refusal::Depth { at: figure },
             7 => Refusal::Ampersand { at: figure },
@@ -36,17 +38,20 @@ impl Refusal {
             9 => Refusal::Bindings,
             10 => Refusal::Space { needed: figure },
             11 => Refusal::NoticeSpace { needed: figure },
-            _ => Refusal::Forged,
+            12 => Refusal::Forged,
+            13 => Refusal::SpanCuts { at: figure },
+            14 => Refusal::EmptyName { at: figure },
+            _ => unreachable!("the library has no refusal {number}"),
         })
     }
 
-    /// The number of the specification, 1 to 12; that of a target without space for `Limit`.
+    /// The number of the specification, 1 to 14; that of a target without space for `Limit`.
     pub fn number(self) -> u8 {
         match self {
             Refusal::TooLong => 1,
             Refusal::NotUtf8 { .. } => 2,
             Refusal::Command { .. } => 3,
-            Refusal::Span { .. } => 4,
+            Refusal::SpanOutside { .. } => 4,
             Refusal::PragmaByte { .. } => 5,
             Refusal::Depth { .. } => 6,
             Refusal::Ampersand { .. } => 7,
@@ -55,6 +60,8 @@ impl Refusal {
             Refusal::Space { .. } | Refusal::Limit { .. } => 10,
             Refusal::NoticeSpace { .. } => 11,
             Refusal::Forged => 12,
+            Refusal::SpanCuts { .. } => 13,
+            Refusal::EmptyName { .. } => 14,
         }
     }
 }
@@ -65,9 +72,11 @@ impl fmt::Display for Refusal {
             Refusal::TooLong => write!(f, "the text or the tape is longer than 65,535 bytes"),
             Refusal::NotUtf8 { at } => write!(f, "the text is not UTF-8: an ill-formed sequence begins at byte {at}"),
             Refusal::Command { at } => write!(f, "the tape has a command or an operand that may not stand at byte {at}, or ends there"),
-            Refusal::Span { at } => {
-                write!(f, "the command at byte {at} of the tape has a span outside the text, one that cuts a character, or an empty name")
+            Refusal::SpanOutside { at } => write!(f, "the command at byte {at} of the tape has a span that ends beyond the text"),
+            Refusal::SpanCuts { at } => {
+                write!(f, "the command at byte {at} of the tape has a span that begins or ends within a character of the text")
             }
+            Refusal::EmptyName { at } => write!(f, "the command at byte {at} of the tape has an empty name"),
             Refusal::PragmaByte { at } => write!(f, "the pragma in force has a character beyond ASCII at byte {at} of the text"),
             Refusal::Depth { at } => write!(f, "elements and fragments are nested deeper than 64 levels at byte {at} of the tape"),
             Refusal::Ampersand { at } => {

@@ -249,7 +249,8 @@ fn a_refused_opening() {
     assert_eq!(told(b"a\xff", &[0x61, 0, 0]), Refusal::NotUtf8 { at: 1 });
     assert_eq!(told(b"a", &[0x61, 0, 1]), Refusal::Command { at: 0 });
     assert_eq!(told(b"a", &[]), Refusal::Command { at: 0 });
-    assert_eq!(told(b"a", &[0x61, 8, 0, 0x62, 0, 0, 2, 0]), Refusal::Span { at: 3 });
+    assert_eq!(told(b"a", &[0x61, 8, 0, 0x62, 0, 0, 2, 0]), Refusal::SpanOutside { at: 3 });
+    assert_eq!(told("ä".as_bytes(), &[0x61, 8, 0, 0x62, 0, 0, 1, 0]), Refusal::SpanCuts { at: 3 });
     assert_eq!(
         told("ä".as_bytes(), &[0x61, 8, 0, 0x62, 0, 0, 2, 0]),
         Refusal::PragmaByte { at: 0 }
@@ -268,6 +269,28 @@ fn a_refused_root_leaves_the_job() {
         (job.state(), job.calls(), job.notices()),
         (before.state(), before.calls(), before.notices())
     );
+}
+
+// Of a command's faults the number decides, not which of its spans has it.
+#[test]
+fn which_span_was_bad() {
+    let job = open("ä".as_bytes());
+    let (outside, cuts, empty) = ([0, 0, 3, 0], [1, 0, 1, 0], [0, 0, 0, 0]);
+    let told = |first: &[u8], second: &[u8]| {
+        let name = [&[0x23], first, second, &[0x1e, 0x1f]].concat();
+        job.clone().lower_root(&root(&name)).unwrap_err()
+    };
+    for (refusal, number, first, others) in [
+        (Refusal::SpanOutside { at: 13 }, 4, outside, vec![outside, cuts, empty]),
+        (Refusal::SpanCuts { at: 13 }, 13, cuts, vec![cuts, empty]),
+        (Refusal::EmptyName { at: 13 }, 14, empty, vec![empty]),
+    ] {
+        assert_eq!(refusal.number(), number);
+        for second in others {
+            assert_eq!(told(&first, &second), refusal);
+            assert_eq!(told(&second, &first), refusal);
+        }
+    }
 }
 
 #[test]
@@ -311,6 +334,17 @@ fn refusals_in_words() {
     let told = Job::open(b"a\xff", &[0x61, 0, 0]).unwrap_err();
     assert_eq!(told.number(), 2);
     assert_eq!(told.to_string(), "the text is not UTF-8: an ill-formed sequence begins at byte 1");
+    let words = |tape: &[u8]| Job::open("ä".as_bytes(), tape).unwrap_err().to_string();
+    assert_eq!(
+        words(&[0x61, 0, 0, 0x60, 0, 0, 3, 0]),
+        "the command at byte 3 of the tape has a span that ends beyond the text"
+    );
+    assert_eq!(
+        words(&[0x61, 0, 0, 0x60, 1, 0, 1, 0]),
+        "the command at byte 3 of the tape has a span that begins or ends within a character of the text"
+    );
+    let told = open(b"a").lower_root(&root(&[0x20, 0, 0, 0, 0, 0x1e, 0x1f])).unwrap_err();
+    assert_eq!(told.to_string(), "the command at byte 13 of the tape has an empty name");
 }
 
 // ---- settings after comments
