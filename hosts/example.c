@@ -27,7 +27,7 @@ int main(void) {
     uint8_t state[JSX_STATE_SIZE], calls[256], notices[32], records[32];
     size_t taken, figure, calls_filled, notices_filled;
 
-    uint8_t number = jsx_open(text, sizeof text, opening, sizeof opening, state, sizeof state, &figure);
+    uint8_t number = jsx_open(text, sizeof text, opening, sizeof opening, state, sizeof state, notices, sizeof notices, &figure);
     if (number != 0) return refused(number, figure);
     if (jsx_call_room(root, root_size) > sizeof calls) return 1;
     number = jsx_root(text, sizeof text, state, sizeof state, root, root_size, calls, sizeof calls, notices, sizeof notices, &figure);
@@ -66,5 +66,14 @@ int main(void) {
     for (size_t i = 0; i < before; i++) {
         if (calls[i] != calls[before + i]) return 1;
     }
-    return stage == 2 && taken == 1 && calls_filled == before && notices_filled == 0 && figure == 5 ? 0 : 1;
+    if (stage != 2 || taken != 1 || calls_filled != before || notices_filled != 0 || figure != 5) return 1;
+
+    /* a mistyped pragma is told by the opening: the part behind the first dot of h..x is empty */
+    const uint8_t mistyped[] = {'h', '.', '.', 'x'};
+    const uint8_t classic[] = {0x61, 0x08, 0x00, 0x62, 0, 0, 4, 0};
+    const uint8_t told[] = {0xc2, 2, 0, 0, 0};
+    number = jsx_open(mistyped, sizeof mistyped, classic, sizeof classic, state, sizeof state, notices, JSX_OPENING_NOTICES, &figure);
+    if (number != 0) return refused(number, figure);
+    jsx_fills(state, sizeof state, &calls_filled, &notices_filled);
+    return calls_filled == 0 && notices_filled == sizeof told && memcmp(notices, told, sizeof told) == 0 ? 0 : 1;
 }

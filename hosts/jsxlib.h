@@ -17,7 +17,17 @@
  *     13  span that cuts a character                                  command's offset
  *     14  empty name                                                  command's offset
  *
- * Of several faults of one command the first of 3, 4, 13, 14, 6, 7, 8 is told, whichever of its spans has it.
+ * Of several faults of one command the first of 3, 4, 13, 14, 6, 7, 8 is told, whichever of its spans has it. An opening is refused by 1, 2, then 3, 4 and 13 in tape
+ * order, then 5; in jsx_open 10 comes next, for the state; 11 comes last, for the opening's notices.
+ *
+ * What a job tells without refusing it stands on its notice tape, S a start and a length as two bytes each, the low one first:
+ *
+ *      C0 S    a key without a value: its name                            from a root
+ *      C1 S S  a namespaced tag, where the flags forbid it: both names    from a root
+ *      C2 S    the first part of a pragma that is not valid               from the opening of a classic job, the pragma's before the fragment pragma's
+ *
+ * Where a pragma is not valid, calls go to React.createElement in its place, and for a fragment pragma the tag is React.Fragment; C2 says so. S is the first part between its
+ * dots that fails: for `import` without `meta` next the root, and an empty S where a name is missing, as between the dots of `h..x` or in an empty option.
  *
  * What a refusal leaves: the state's bytes and every target as they were, in jsx_open, jsx_root, jsx_records, jsx_settings and jsx_source. jsx_roots and jsx_job lower the roots before the
  * one that is refused, and leave these: `taken` says how many. So after 10 or 11 from jsx_roots call it again with more room and with the list cut behind its first
@@ -45,10 +55,17 @@ extern "C" {
 /* A job's state: exactly this many bytes, to be kept and copied as one likes. */
 #define JSX_STATE_SIZE 102
 
-/* Opens a job: reads the opening tape over the text and writes the state to the front of `state`. On 0 the figure is JSX_STATE_SIZE. */
-uint8_t jsx_open(const uint8_t *text, size_t text_len, const uint8_t *job, size_t job_len, uint8_t *state, size_t state_len, size_t *figure);
+/* No opening writes more bytes of notices: two C2. */
+#define JSX_OPENING_NOTICES 10
 
-/* Lowers a root: its calls and notices go behind those of the roots before it, as far as the state says the targets are filled.
+/* Opens a job: reads the opening tape over the text, writes the state to the front of `state` and the opening's notices, if there are any, to the front of `notices`. On 0
+ * the figure is JSX_STATE_SIZE; jsx_fills tells how far the notices are filled. The notices of the roots go behind them, so hand jsx_root and jsx_roots the same
+ * target. Refused by 10 with JSX_STATE_SIZE where the state has no room, else by 11 with the size of the notices where these have none; a refusal leaves both as they
+ * were. JSX_OPENING_NOTICES bytes are room enough. */
+uint8_t jsx_open(const uint8_t *text, size_t text_len, const uint8_t *job, size_t job_len, uint8_t *state, size_t state_len, uint8_t *notices,
+                 size_t notices_len, size_t *figure);
+
+/* Lowers a root: its calls and notices go behind those of the opening and of the roots before it, as far as the state says the targets are filled.
  * `text` is the text of jsx_open, `state_len` is JSX_STATE_SIZE. On 0 the state is the one after the root, and the figure is 0. */
 uint8_t jsx_root(const uint8_t *text, size_t text_len, uint8_t *state, size_t state_len, const uint8_t *tape, size_t tape_len, uint8_t *calls,
                  size_t calls_len, uint8_t *notices, size_t notices_len, size_t *figure);
@@ -86,10 +103,10 @@ uint8_t jsx_source(const uint8_t *text, size_t text_len, const uint8_t *state, s
                    size_t *figure);
 
 /* A whole job at once: its opening, the roots of a list (as for jsx_roots) and its records, with no state in between. `calls` and `notices` are filled from their
- * fronts as far as `call_fill` and `notice_fill` say. On 0 `stage` is 2, and the figure is the length of the record tape at the front of `records`. A refusal
- * ends the job: `stage` is 0 where it is that of the opening, 1 where it is that of the root with the index `taken` or of a list that is cut short behind so
- * many, 2 where the records have no room. The roots before it have been lowered, and the records are not written. Where the settings are wanted too, jsx_open and
- * jsx_settings tell them. */
+ * fronts as far as `call_fill` and `notice_fill` say, the opening's notices before those of the roots. On 0 `stage` is 2, and the figure is the length of the record
+ * tape at the front of `records`. A refusal ends the job: `stage` is 0 where it is that of the opening (11 where its notices have no room, among others), 1 where it is that
+ * of the root with the index `taken` or of a list that is cut short behind so many, 2 where the records have no room. The opening's notices stand and the roots before it
+ * have been lowered, and the records are not written. Where the settings are wanted too, jsx_open and jsx_settings tell them. */
 uint8_t jsx_job(const uint8_t *text, size_t text_len, const uint8_t *job, size_t job_len, const uint8_t *roots, size_t roots_len, uint8_t *calls,
                 size_t calls_len, uint8_t *notices, size_t notices_len, uint8_t *records, size_t records_len, size_t *stage, size_t *taken,
                 size_t *call_fill, size_t *notice_fill, size_t *figure);

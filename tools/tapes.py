@@ -107,6 +107,7 @@ TAPES = {
     "Notice tape": {
         0xC0: ("valueless_key span", "a key without a value"),
         0xC1: ("namespaced_tag span span", "a namespaced tag, where the flags forbid it"),
+        0xC2: ("invalid_pragma span", "the first part of a pragma that is not valid, from the opening of a classic job"),
     },
 }
 COMMANDS = {code: command[0] for commands in TAPES.values() for code, command in commands.items()}

@@ -75,12 +75,13 @@ def given(v):
 # ---- and of `stdout`
 
 
-def state_of(v):
-    state = states.State(model.open_job(v.opening, v.text))
-    data = bytearray(states.packed(state))
+def opened(v):
+    """The state behind the opening, and its notices."""
+    settings, told = model.open_job(v.opening, v.text, v.rooms[1])
+    data = bytearray(states.packed(states.State(settings, notices=len(told))))
     for place, replacement in v.replaced:
         data[place:place + len(replacement)] = replacement
-    return states.unpacked(bytes(data))
+    return states.unpacked(bytes(data)), told
 
 
 def lowered(text, state, root, rooms):
@@ -102,9 +103,14 @@ def lowered(text, state, root, rooms):
 
 def answered(v):
     """What the program prints for a vector."""
-    text, state = v.text if v.then is None else v.then, state_of(v)
     targets = [bytearray(b"\xee" * room) for room in v.rooms]
     line = v.name + ":"
+    try:
+        state, told = opened(v)
+    except model.Refused as refusal:
+        return line + " opening refused %d %d" % refusal.args + "; " + model.line("notices:", targets[1])
+    text = v.text if v.then is None else v.then
+    targets[1][:len(told)] = told
     for root in v.roots:
         try:
             lowering = lowered(text, state, root, v.rooms)

@@ -5,6 +5,7 @@
 specification, and not by the program.
 """
 
+import itertools
 import os
 import re
 import sys
@@ -17,7 +18,8 @@ import states  # noqa: E402
 
 COMMANDS = {"c": 0x60, "p": 0x62, "f": 0x63, "i": 0x64}
 ESCAPES = {b"n": b"\n", b"r": b"\r", b"t": b"\t", b"v": b"\x0b", b"f": b"\x0c"}
-ROOM = 65536
+ROOM, NOTICE_ROOM = 65536, 16
+PARTS = ["this", "import", "meta", "h", "class", "1x", ""]
 
 
 def quoted(letters):
@@ -38,9 +40,24 @@ def job_of(line):
     return tape, text
 
 
-def answered(tape, text):
+def room_of(line):
+    """The size of the notice target."""
+    said = re.search(rb" room ([0-9a-f])$", line)
+    return int(said[1], 16) if said else NOTICE_ROOM
+
+
+def form_words(form):
+    root, _, tail = form.partition(".")
+    return b"" if root in ("-", "default") else f" = {'import.meta' if root == 'importmeta' else root} + {tail}".encode()
+
+
+def notice_words(told):
+    return model.line("; notices", told).encode() if told else b""
+
+
+def answered(tape, text, room=NOTICE_ROOM):
     try:
-        s = model.open_job(tape, text)
+        s, told = model.open_job(tape, text, room)
     except model.Refused as refusal:
         return b"    refused %d %d" % refusal.args
     kind = states.mode(s)
@@ -51,10 +68,8 @@ def answered(tape, text):
         span = getattr(s, name)
         if span is not None:
             words.append(b'; %s "%s"' % (word, text[span[0]:span[0] + span[1]]))
-        root, _, tail = form.partition(".")
-        if root not in ("-", "default"):
-            words.append(f" = {'import.meta' if root == 'importmeta' else root} + {tail}".encode())
-    return b"".join(words)
+        words.append(form_words(form))
+    return b"".join(words) + notice_words(told)
 
 
 def long(pairs, pair, rest):
@@ -63,13 +78,27 @@ def long(pairs, pair, rest):
     return answered(b"\x61\x09\x00\x60\x00\x00" + model.le(len(text) % ROOM), text)
 
 
+def pragmas():
+    """Every pragma of up to four parts, the first part changing first."""
+    for count in (1, 2, 3, 4):
+        for parts in itertools.product(PARTS, repeat=count):
+            yield ".".join(reversed(parts))
+
+
+def read(pragma):
+    """A text with a pragma behind an @, and how a classic job reads it."""
+    text = b"@" + pragma.encode()
+    s, told = model.open_job(b"\x61\x08\x00\x62" + model.put((1, len(pragma))), text)
+    return text + form_words(s.forms[0]) + notice_words(told)
+
+
 def main():
     lines = []
     with open(os.path.join(HERE, "stdin"), "rb") as file:
         for line in file.read().split(b"\n"):
             if len(line) >= 4:
                 lines.append(line)
-                lines += [answered(*job_of(line))] if line[:1] != b"#" else []
+                lines += [answered(*job_of(line), room_of(line))] if line[:1] != b"#" else []
     lines += [
         b"# ---- long comments: 60,000 at signs, then a pragma",
         long(30000, b"@@", b" @jsx h.g"),
@@ -79,6 +108,8 @@ def main():
         b"# 65,535 bytes, and one more",
         long(32763, b"@@", b" @jsx h.g"),
         long(32763, b"@@", b" @jsx h.gg"),
+        b"# ---- behind an @, every pragma of up to four parts out of this, import, meta, h, class, 1x and an empty one",
+        *map(read, pragmas()),
     ]
     hold(__file__, {"stdout": b"\n".join(lines) + b"\n"}, "the answers to its jobs")
 

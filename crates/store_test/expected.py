@@ -23,7 +23,7 @@ LINES = []
 
 
 def settings(mode, dev=0, source=0, **more):
-    s = model.open_job(bytes([0x61, 0x01 | source << 2 | dev << 4 | {"module": 0x80, "script": 0, "classic": 0x08}[mode], 0]), b"")
+    s, _ = model.open_job(bytes([0x61, 0x01 | source << 2 | dev << 4 | {"module": 0x80, "script": 0, "classic": 0x08}[mode], 0]), b"")
     # the program's states are no opening's: development turns no plugin on there
     s.source, s.dev = source, dev
     for name, value in more.items():

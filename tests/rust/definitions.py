@@ -1,8 +1,9 @@
 """Computes generated cases from the definitions of crates/definitions and compares them with model.py: definitions.py [CASES] [SEED]
 
 The cases have one root each. They become tables as in crates/definitions/specs/Examples.antt, which the prover computes by `refl`; a case that
-differs is an error that names both sides. Works in target/definitions and needs the Rattle kit. Cases with long texts or tapes are left out. Prints how many
-rows were computed, how many of them are accepted, and how often each refusal comes up.
+differs is an error that names both sides. Works in target/definitions and needs the Rattle kit. Cases with long texts or tapes are left out. An opening that tells
+of a pragma is computed by itself too, over notice targets that have a byte too few, just enough and one more. Prints how many rows were computed, how many of them
+are accepted, and how often each refusal comes up.
 """
 
 import collections
@@ -13,6 +14,7 @@ import subprocess
 import sys
 
 import cases
+import model
 
 here = pathlib.Path(__file__).resolve().parent
 top = here.parent.parent
@@ -26,12 +28,32 @@ def hexed(data):
 
 
 def expected(lines):
-    for line in lines[:2]:
+    said = {"calls": "", "notices": "", "records": ""}
+    for line in lines:
         refused = re.match(r"(?:opening|root 0) refused (\d+) (\d+)", line)
         if refused:
             return "refusedWith " + " ".join(refused.groups())
-    said = {line.split(" ")[0]: line[len(line.split(" ")[0]):] for line in lines[2:] if line}
-    return "printed " + " ".join(hexed(said[word]) for word in ("calls", "notices", "records"))
+        word = line.split(" ")[0]
+        if word in said:
+            # the opening's notices stand before the root's
+            said[word] += line[len(word):]
+    return "printed " + " ".join(map(hexed, said.values()))
+
+
+def openings(job, text):
+    """The same opening over targets that its notices don't fit in, fill, and leave room in."""
+    try:
+        size = len(model.open_job(job, text)[1])
+    except model.Refused:
+        return
+    for room in (size - 1, size, size + 1) if size else ():
+        target = b"\xee" * room
+        try:
+            _, told = model.open_job(job, text, room)
+            reply = f"noticed {len(told)} {hexed(told + target[len(told):])}"
+        except model.Refused as refusal:
+            reply = f"refusedOver {refusal.args[0]} {refusal.args[1]} {hexed(target)}"
+        yield f"(opens {hexed(job)} {hexed(text)} {hexed(target)} gives {reply})"
 
 
 def rows(count, seed):
@@ -43,13 +65,14 @@ def rows(count, seed):
         if len(text) <= 300 and len(job) <= 200 and len(roots) == 1 and len(roots[0]) <= 400:
             asked = f"prints {hexed(job)} {hexed(text)} {hexed(roots[0])}"
             yield f"({asked} gives output ({expected(answer.split(chr(10))[1:])}))"
+            yield from openings(job, text)
 
 
 def table(part):
     examples = (top / "crates/definitions/specs/Examples.antt").read_text()
     head = examples[:examples.index("-- ---- how rows are written")].replace("Rattle.definitions.specs.", "Rattle.definitions.specs.")
     unfolded = examples[examples.index("unfolding", examples.index("\ncomputed :")):examples.index("computed = (refl, refl)")]
-    names = "digit, hexOf, hex, prints, output, pairsOf, meaningOf, meaning, replyTo, Row, _gives_"
+    names = "digit, hexOf, hex, prints, opens, output, noticed, refusedOver, pairsOf, openingReply, meaningOf, meaning, replyTo, Row, _gives_"
     return (head + f"use Rattle.definitions.specs.Examples.{{{names}}}\n\nabbrev table : List Row\ntable =\n    " + "\n    ∷ ".join(part)
         + "\n    ∷ []\n\npub computed : map (λ r. replyTo (r .asked)) table ≡ map (λ r. r .expected) table\n" + unfolded + "computed = refl\n")
 
@@ -71,9 +94,10 @@ def main():
         (specs / f"Cases{i}.antt").write_text(table(part))
     (specs / "Lib.antt").write_text("".join(f"pub mod Cases{i}\n" for i in range(len(parts))))
     subprocess.run(["rt", "check", "computed"], cwd=work, check=True, stdout=subprocess.DEVNULL)
-    refused = collections.Counter(int(found[1]) for found in (re.search(r"refusedWith (\d+)", row) for row in all_rows) if found)
+    refused = collections.Counter(int(found[1]) for found in (re.search(r"refused(?:With|Over) (\d+)", row) for row in all_rows) if found)
     told = ", ".join(f"{number}: {times}" for number, times in sorted(refused.items()))
-    print(f"{len(all_rows)} cases computed from the definitions, 0 differ from the model; {len(all_rows) - refused.total()} accepted; refused by {told}")
+    alone = sum(row.startswith("(opens") for row in all_rows)
+    print(f"{len(all_rows)} rows computed from the definitions, {alone} of them openings alone, 0 differ from the model; {len(all_rows) - refused.total()} accepted; refused by {told}")
 
 
 main()

@@ -1,7 +1,7 @@
 #!/usr/bin/env python3
-"""The specification's "Sheets to try" as cases with what must come out: python3 examples.py FILE, then python3 examples.py --check ANSWERS..
+"""The specification's "Sheets to try" as cases with what must come out: python3 examples.py FILE, then python3 examples.py --check ORACLE OTHER..
 
-The first writes the cases, the second looks through what oracle (with --plain-fragments) and other programs printed for them.
+The first writes the cases, the second looks through what oracle (with --plain-fragments) and other programs printed for them. The Rust has no notices of openings (C2).
 """
 
 import sys
@@ -54,6 +54,8 @@ EXAMPLES = [
      ["calls 80 01 81 82 9e 96 00 99 00 9f 96 00 99 02 a0 01", "records b0 01 b2 00"]),
     ("a fragment with the self plugin", "61 02 00", b"", "01 00 02 03 11" + Z + "1f",
      ["calls 80 01 81 82 9e 96 00 99 00 9f 96 00 99 02 a0 01", "records b0 01 b2 00"]),
+    ("a mistyped pragma", "61 08 00 62 0000 0400", b"h..xkey", ROOT + "22 30 0400 0300 40 1e 1f",
+     ["notices c2 02 00 00 00", "calls 80 00 81 83 04 00 03 00 90 82 9e 93 9f 98 00 a0 00", "notices c0 04 00 03 00", "records"]),
 ]
 
 
@@ -64,17 +66,19 @@ def main():
                 file.write(pack(bytes.fromhex(job), text, [bytes.fromhex(root)] if root else []))
         return
     wrong = 0
-    for file in sys.argv[2:]:
+    for number, file in enumerate(sys.argv[2:]):
         with open(file) as answers:
-            wrong += check([answer.split("\n")[1:] for answer in answers.read().split("case ")[1:]])
+            wrong += check([answer.split("\n")[1:] for answer in answers.read().split("case ")[1:]], number == 0)
     print(f"{len(EXAMPLES)} examples, {wrong} wrong lines")
     sys.exit(1 if wrong else 0)
 
 
-def check(answers):
+def check(answers, is_rust):
     wrong = 0
     for (name, _, _, _, expected), answer in zip(EXAMPLES, answers, strict=True):
         for line in expected:
+            if is_rust and line.startswith("notices c2"):
+                continue
             if not (any(line in each for each in answer) if line[0] == " " else any(
                     each == line or line.endswith("refused") and each.startswith(line) for each in answer)):
                 wrong += 1

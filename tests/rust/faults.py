@@ -2,8 +2,8 @@
 """How sensitive the comparison is: python3 faults.py CASES ANSWERS [NUMBER...]
 
 Puts one deliberate fault at a time into a copy of the Rust (a folder that is removed again), builds the oracle from it and compares
-what it prints for the cases with ANSWERS, which are another program's, as that of crates/replay. A fault is seen if the two differ or
-the run breaks off. OXC_SRC names the original, as for the build.
+what it prints for the cases with ANSWERS, which are another program's, as that of crates/replay. The notices of openings, which the Rust has none of, are held to the
+model's (compare.py). A fault is seen if the two differ or the run breaks off. OXC_SRC names the original, as for the build.
 """
 
 import itertools
@@ -13,7 +13,8 @@ import subprocess
 import sys
 import tempfile
 
-from compare import agrees, cases as answers_in
+from cases import unpack
+from compare import agrees, cases as answers_in, oracle_answers
 
 HERE = os.path.dirname(os.path.abspath(__file__))
 IMPL, COMMENTS, SELF, SOURCE = "jsx/jsx_impl.rs", "jsx/comments.rs", "jsx/jsx_self.rs", "jsx/jsx_source.rs"
@@ -83,9 +84,10 @@ def oracle(source, cases, printed):
     return run.returncode == 0
 
 
-def differing(printed, answers):
+def differing(cases, printed, answers):
     """In how many cases the two differ."""
-    pairs = itertools.zip_longest(answers_in(printed), answers_in(answers), fillvalue=[])
+    with open(cases, "rb") as file:
+        pairs = itertools.zip_longest(oracle_answers(unpack(file.read()), printed), answers_in(answers), fillvalue=[])
     return sum(len(ours) != len(theirs) or not all(map(agrees, ours, theirs)) for ours, theirs in pairs)
 
 
@@ -94,7 +96,7 @@ def main():
     source = os.environ["OXC_SRC"]
     work = tempfile.TemporaryDirectory()
     printed = os.path.join(work.name, "printed")
-    if not oracle(source, cases, printed) or differing(printed, answers):
+    if not oracle(source, cases, printed) or differing(cases, printed, answers):
         sys.exit("the Rust without a fault differs already")
     unseen = []
     for number, (what, file, edits) in enumerate(FAULTS):
@@ -119,7 +121,7 @@ def main():
                 ended = oracle(copy, cases, printed)
             except subprocess.CalledProcessError as error:
                 sys.exit(f"{number} {what}: doesn't build\n{error.stderr.decode()}")
-        how_many = differing(printed, answers) if ended else 0
+        how_many = differing(cases, printed, answers) if ended else 0
         if ended and not how_many:
             unseen.append(what)
         print(f"{number} {what}:", "breaks off" if not ended else f"{how_many} cases differ" if how_many else "NOT SEEN", flush=True)

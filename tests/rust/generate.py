@@ -1,11 +1,12 @@
 #!/usr/bin/env python3
 """Makes a file of cases: python3 generate.py FILE [--cases N] [--seed N] [--damaged PERCENT] [--roots N] [--no-grid]
 
-First the grid, every flag byte with every shape of `grid`, the cases of `limits` and those of `span_faults`; then N cases of chance. Each case is a valid job with a
-series of one to N (six) valid roots; PERCENT of the cases of chance are then damaged. The same numbers give the same file.
+First the grid, every flag byte with every shape of `grid`, the cases of `limits`, `span_faults`, `pragma_faults` and `empty_values`; then N cases of chance. Each case is
+a valid job with a series of one to N (six) valid roots; PERCENT of the cases of chance are then damaged. The same numbers give the same file.
 """
 
 import argparse
+import itertools
 import random
 
 from cases import pack
@@ -23,6 +24,9 @@ PRAGMAS = ["h", "h.x", "h.class", "h.a.b.c", "React.createElement", "React.Fragm
            "import.h", "a..b", ".a", "a.", ".", "..", "class", "class.a", "await", "yield", "enum", "let", "static", "async",
            "implements", "null.a", "true", "undefined", "a.1", "1a", "a1", "$", "_", "$_9.Z", "a-b", "a b", "@jsx", "null",
            "This", "thiss", "imports.meta", "h.this", "h.import", "a\tb", "", "await.x", "super.x", "of", "var_"]
+# parts of pragmas that stand anywhere, at the front only, behind it only, and nowhere
+PARTS = ["h", "this", "import", "meta", "class", "1x", ""]
+MORE_PARTS = PARTS + ["h", "React", "createElement", "$_", "await", "of", "a-b", "x1", "import"]
 OVER_ASCII = ["é", "h.é", "aé.b", "漢.x", "this.é"]
 SOURCES = ["preact", "react", "", "@emotion/react", "é", "a/jsx-runtime", "x", "./local", "react/jsx-runtime"]
 RUNTIMES = ["classic", "automatic", "Classic", "auto", "classic.", "classical"]
@@ -76,16 +80,23 @@ class Maker:
 
     def job(self):
         c = self.chance
-        flags = c.choice([c.randrange(256), c.randrange(256), 0x81, 0x01, 0x09, 0x91, 0x11, 0x00, 0x87, 0x07, 0x0F])
+        flags = c.choice([c.randrange(256), c.randrange(256), 0x81, 0x01, 0x09, 0x91, 0x11, 0x00, 0x87, 0x07, 0x0F, 0x29, 0x08])
         job = bytearray(b"\x61" + u16(flags))
-        for code, values in ((0x62, PRAGMAS), (0x63, PRAGMAS), (0x64, SOURCES)):
-            if self.some(0.25):
+        for code, value in ((0x62, self.pragma), (0x63, self.pragma), (0x64, lambda: c.choice(SOURCES))):
+            if self.some(0.3):
                 if self.some(0.05):
-                    values = OVER_ASCII
-                job += bytes([code]) + self.text.span(c.choice(values))
+                    value = lambda: c.choice(OVER_ASCII)
+                job += bytes([code]) + self.text.span(value())
         for _ in range(c.choice([0, 0, 0, 1, 1, 2, 3, 5])):
             job += b"\x60" + self.text.span(self.comment())
         return bytes(job)
+
+    def pragma(self):
+        """One of the list, or parts of chance between dots, most of which are mistyped."""
+        c = self.chance
+        if self.some(0.5):
+            return c.choice(PRAGMAS)
+        return ".".join(c.choice(MORE_PARTS) for _ in range(c.choice([1, 2, 2, 3, 3, 4, 6])))
 
     def comment(self):
         c = self.chance
@@ -101,10 +112,10 @@ class Maker:
         parts = [c.choice(["", " ", "* ", "*", "\n * ", "x", "`", "see a@b.c "])]
         for _ in range(c.randrange(1, 4)):
             keyword = c.choice(["", "", "Frag", "ImportSource", "Runtime", "Runtime", "Pragma", "runtime"])
-            values = {"ImportSource": SOURCES, "Runtime": RUNTIMES}.get(keyword, PRAGMAS)
+            values = {"ImportSource": SOURCES, "Runtime": RUNTIMES}.get(keyword)
             if self.some(0.03):
                 values = OVER_ASCII
-            parts.append("@jsx" + keyword + c.choice([" ", "\t", "  ", " \t ", "\n ", " \n"]) + c.choice(values))
+            parts.append("@jsx" + keyword + c.choice([" ", "\t", "  ", " \t ", "\n ", " \n"]) + (c.choice(values) if values else self.pragma()))
             parts.append(c.choice([" ", "\n", "\t", "\x0b", "\x0c", "\r\n * ", "", " * ", "\xa0", " text "]))
         return "".join(parts)
 
@@ -380,6 +391,12 @@ def limits(most):
     pairs = front + b"\x10" + z + b"\x23" + pair(0, 1) + pair(1, 3) + b"\x1e\x1f"
     for roots in ([keys(205), half(0)], [keys(204), keys(1), half(0)], [keys(203), pairs, keys(1)]):
         yield b"\x61\xa1\x00", b"akey", roots[:most]
+    # the same behind the notices of an opening, of one pragma and of both: exactly full with the root that follows, and one too many
+    one = b"\x61\x29\x00\x62" + pair(0, 0)
+    both = one + b"\x63" + pair(4, 2)
+    for opening, count in ((one, 202), (both, 201)):
+        for roots in ([keys(count), pairs, keys(1)], [keys(count + 1), pairs, half(0)], [keys(count + 2), keys(count + 3), half(0)]):
+            yield opening, b"akey1x", roots[:most]
     for depth in (64, 65):
         yield job, b"", [front + (b"\x11" + z) * depth + b"\x1f" * depth]
     yield job, b"", [b"", front, front + b"\x11", half(0)][:most]
@@ -434,6 +451,32 @@ def span_faults(step):
                 yield b"\x61\x09\x00" + bytes([first]) + a + bytes([second]) + b, text, []
 
 
+def pragma_faults():
+    """Pragmas of up to three parts, each with the one before it in the list as fragment pragma: as options, and in a comment, alone or over options that it overrides.
+    Now and then the job is automatic, or without the plugin, so that the comment sets the TypeScript pair alone."""
+    pragmas = [".".join(parts) for count in (1, 2, 3) for parts in itertools.product(PARTS, repeat=count)]
+    for number, pragma in enumerate(pragmas):
+        frag, other = pragmas[number - 1], pragmas[(number * 5 + 1) % len(pragmas)]
+        flags = (0x09, 0x09, 0x08, 0x09, 0x81)[number % 5]
+        text, tape = "", b"\x61" + u16(flags)
+        for code, said in ((0x62, pragma), (0x63, frag)):
+            tape += bytes([code]) + pair(len(text), len(said))
+            text += said
+        yield tape, text.encode(), []
+        comment = f" @jsxFrag {other} @jsx {frag} "
+        options = tape if number % 2 else b"\x61" + u16(flags)
+        yield options + b"\x60" + pair(len(text), len(comment)), (text + comment).encode(), []
+
+
+def empty_values():
+    """Comments with a pragma that has no value, behind which another stands that may not count."""
+    values = {"": "h", "Frag": "f", "ImportSource": "lib", "Runtime": "classic"}
+    root = b"\x01\x00\x02\x03\x11" + u32(0) + u32(0) + b"\x1f"
+    for first, (second, value) in itertools.product(values, values.items()):
+        comment = f"* @jsx{first} \t\n * @jsx{second} {value} ".encode()
+        yield b"\x61\x81\x00\x60" + pair(0, len(comment)), comment, [root]
+
+
 def main():
     parser = argparse.ArgumentParser()
     parser.add_argument("file")
@@ -447,7 +490,7 @@ def main():
     maker = Maker(chance, arguments.roots)
     with open(arguments.file, "wb") as file:
         if not arguments.no_grid:
-            for case in (*grid(arguments.roots), *limits(arguments.roots), *span_faults(arguments.roots)):
+            for case in (*grid(arguments.roots), *limits(arguments.roots), *span_faults(arguments.roots), *pragma_faults(), *empty_values()):
                 file.write(pack(*case))
         for _ in range(arguments.cases):
             case = maker.case()

@@ -2,8 +2,8 @@
 """A second reading of the specification, in the small: python3 model.py CASES [--notices ROOM]
 
 Written from the specification's text, by someone who had read the Rust, as a check on the bridge and the generator: no wholly independent
-reading. It claims nothing about the proved program. Prints what oracle prints, and each refusal with its number and figure. ROOM is that of the
-target for notices (65,536 bytes).
+reading. It claims nothing about the proved program. Prints what oracle prints, the opening's notices, which the Rust has none of, and each refusal with its
+number and figure. ROOM is that of the target for notices (65,536 bytes).
 """
 
 import argparse
@@ -97,7 +97,8 @@ class Settings:
     pass
 
 
-def open_job(job, text):
+def open_job(job, text, room=TARGET):
+    """The settings, and the opening's notices."""
     check_lengths(text, job)
     tape = Tape(job, text)
     tape.command({0x61})
@@ -141,7 +142,11 @@ def open_job(job, text):
                 if text[place] > 0x7F:
                     raise Refused(5, place)
     s.forms = [form_of(text, span) if s.classic else "-" for span in (s.pragma, s.frag)]
-    return s
+    failing = [failing_part(text, span) for span in (s.pragma, s.frag)] if s.classic else []
+    notices = b"".join(b"\xc2" + put(part) for part in failing if part is not None)
+    if len(notices) > room:
+        raise Refused(11, len(notices))
+    return s, notices
 
 
 def pragmas_in(text, span):
@@ -172,20 +177,38 @@ def pragmas_in(text, span):
         at = min(at + 1, end)
 
 
-def form_of(text, span):
-    if span is None or span[1] == 0:
-        return "default.0"
-    root, *tail = text[span[0]:span[0] + span[1]].decode().split(".")
-    kind = "identifier"
-    if root == "this":
-        kind = "this"
-    elif root == "import":
+def parts_of(text, span):
+    return text[span[0]:span[0] + span[1]].decode().split(".")
+
+
+def first_failing(parts):
+    """Which part of a pragma fails first; None where it is valid. The empty pragma has one part, which is no name."""
+    root, *tail = parts
+    if root == "import":
         if tail[:1] != ["meta"]:
-            return "default.0"
-        kind, tail = "importmeta", tail[1:]
-    elif root in RESERVED or not is_name(root):
+            return 0
+    elif root != "this" and (root in RESERVED or not is_name(root)):
+        return 0
+    return next((number for number, part in enumerate(tail, 1) if not is_name(part)), None)
+
+
+def failing_part(text, span):
+    """The first part of a pragma that fails, as a span of the text; None where the pragma is absent or valid."""
+    parts = [] if span is None else parts_of(text, span)
+    number = first_failing(parts) if parts else None
+    if number is None:
+        return None
+    return span[0] + sum(len(part) + 1 for part in parts[:number]), len(parts[number])
+
+
+def form_of(text, span):
+    """The form that the settings have: an absent or invalid pragma falls back to the default."""
+    if span is None or failing_part(text, span) is not None:
         return "default.0"
-    return f"{kind}.{len(tail)}" if all(map(is_name, tail)) else "default.0"
+    root, *tail = parts_of(text, span)
+    if root == "import":
+        return f"importmeta.{len(tail) - 1}"
+    return f"{root if root == 'this' else 'identifier'}.{len(tail)}"
 
 
 def is_name(part):
@@ -535,7 +558,7 @@ def shown(text, span):
 
 def run(job, text, roots, out, room=TARGET):
     try:
-        s = open_job(job, text)
+        s, told = open_job(job, text, room)
     except Refused as refusal:
         out("opening refused %d %d" % refusal.args)
         return
@@ -543,7 +566,9 @@ def run(job, text, roots, out, room=TARGET):
     out(f"opening {runtime} plugin {s.plugin} self {s.self} source {s.source} development {s.dev} throw {s.throw} "
         f"pure {s.pure} pragma {shown(text, s.pragma)} {s.forms[0]} frag {shown(text, s.frag)} {s.forms[1]} "
         f"import {shown(text, s.importing)} typescript {shown(text, s.ts)} {shown(text, s.tsfrag)}")
-    bindings, calls, notices = [], 0, 0
+    if told:
+        out(line("notices", told))
+    bindings, calls, notices = [], 0, len(told)
     for number, root in enumerate(roots):
         try:
             self_allowed, node = read_root(root, text)

@@ -22,9 +22,11 @@ RIGHT = "ok: the native program at -O3 ended and wrote what is expected"
 JSX, EMIT, SELF, PEN, STRINGS = "jsx/src/jsx_impl.rt", "emit/src/jsx_impl.rt", "emit/src/jsx_self.rt", "pen/src/pen.rt", "pen/src/strings.rt"
 PARTS, LINES, ROOTS, CHARS, LOWERING = "parts/src/jsx_impl.rt", "jsx_text/src/lib.rt", "root_check/src/check.rt", "text/src/chars.rt", "lowering/src/lib.rt"
 COMMENTS, SETTINGS, OPTIONS, PRAGMA = "comments/src/lib.rt", "settings/src/jsx_impl.rt", "option_values/src/lib.rt", "pragma/src/lib.rt"
+OPENING = "settings/src/opening.rt"
 GROUPS, RECORDS, FINDING, NOTICES = "records/src/groups.rt", "records/src/record_tape.rt", "records/src/finding.rt", "pen/src/diagnostics.rt"
 REFUSALS = "tape/src/refusal.rt"
 
+# what is wrong then, the file, and old and new text in turn; each old text occurs once
 FAULTS = [
     ("a sole spread child is bare", PARTS, "    if spread { 1 } else { 0 }", "    if spread { 0 } else { 0 }"),
     ("the first key counts", PARTS, "    if key == 0 {\n        return before;", "    if (key == 0) | (before != 0) {\n        return before;"),
@@ -78,8 +80,8 @@ FAULTS = [
     ("the byte behind a value stays", COMMENTS, "        at += 1;\n    }", "    }"),
     ("pure where only one of the two is absent", SETTINGS, "(is_absent(import_source) & is_absent(pragma))", "(is_absent(import_source) | is_absent(pragma))"),
     ("development doesn't turn on the source plugin", OPTIONS, "        g.source_plugin = true;\n", ""),
-    ("reserved roots are in order", PRAGMA, "    if is_reserved_keyword(root) {\n        return default_form();\n    }\n", ""),
-    ("import with any second part", PRAGMA, '    if same(&behind[1..end], b"meta") {', '    if true | same(&behind[1..end], b"meta") {'),
+    ("reserved roots are in order", PRAGMA, "    if is_reserved_keyword(root) {\n        return PragmaRead::Invalid(0, end);\n    }\n", ""),
+    ("import with any second part", PRAGMA, '    if same(&pragma[start..end], b"meta") {', '    if true | same(&pragma[start..end], b"meta") {'),
     ("a digit begins a name", PRAGMA, "    if !is_identifier_start(w[0]) {", "    if !is_identifier_part(w[0]) {"),
     ("source 0 isn't put in front", GROUPS, "with_group(groups, source, source == IMPORT_SOURCE)", "with_group(groups, source, false)"),
     ("the file name within a script's body in classic", RECORDS, "        Mode::Classic => 0,", "        Mode::Classic => 1,"),
@@ -89,6 +91,18 @@ FAULTS = [
     ("13 and 14 are swapped", REFUSALS, "        Fault::Cuts => 13,\n        Fault::EmptyName => 14,", "        Fault::Cuts => 14,\n        Fault::EmptyName => 13,"),
     ("the first span's fault is told", ROOTS, "        Bounds::Cuts => match b {", "        Bounds::Cuts => match a {"),
     ("an empty name is told before a span that cuts", ROOTS, "            Bounds::Cuts => b,", "            Bounds::Cuts => a,"),
+    ("the last part of a pragma that fails is told", PRAGMA,
+     "            return PragmaRead::Invalid(start, end - start);\n        }\n        n += 1;\n        i = end;\n    }\n",
+     "            last = start;\n            size = end - start;\n            fails = true;\n        }\n        n += 1;\n        i = end;\n    }\n"
+     "    if fails {\n        return PragmaRead::Invalid(last, size);\n    }\n",
+     "    let mut n = 0;\n", "    let mut n = 0;\n    let mut last = 0;\n    let mut size = 0;\n    let mut fails = false;\n"),
+    ("the part behind import is told in place of the root", PRAGMA, "    PragmaRead::Invalid(0, at)\n", "    PragmaRead::Invalid(start, end - start)\n"),
+    ("a part that fails is told by its place in the pragma", PRAGMA, "PragmaRead::Invalid(offset, len)", "PragmaRead::Invalid(place, len)"),
+    ("an automatic job tells of its pragmas", PRAGMA, "        Mode::Module => PragmaRead::Absent,", "        Mode::Module => parse_no_ctx(text, pragma),"),
+    ("the fragment pragma is told first", OPENING,
+     "    let behind = put_notice(notices, 0, read);\n    put_notice(notices, behind, read_frag);",
+     "    let behind = put_notice(notices, 0, read_frag);\n    put_notice(notices, behind, read);"),
+    ("a root's notices are written over the opening's", OPENING, "accepted(new(options, read, read_frag), size)", "accepted(new(options, read, read_frag), 0)"),
 ]
 
 
@@ -129,12 +143,14 @@ def main():
         if not tried(folder):
             sys.exit("the port without a fault differs already")
         for number in sorted(chosen):
-            what, file, old, new = FAULTS[number]
+            what, file, *texts = FAULTS[number]
             path = folder / "crates" / renamed(file, "^", "/")
-            right = path.read_text()
-            if right.count(old) != 1:
-                sys.exit(f"{number} {what}: the text to change occurs {right.count(old)} times")
-            path.write_text(right.replace(old, new))
+            right = wrong = path.read_text()
+            for old, new in zip(texts[::2], texts[1::2]):
+                if right.count(old) != 1:
+                    sys.exit(f"{number} {what}: the text to change occurs {right.count(old)} times")
+                wrong = wrong.replace(old, new)
+            path.write_text(wrong)
             is_right = tried(folder)
             path.write_text(right)
             unseen += is_right

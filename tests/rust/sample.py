@@ -4,18 +4,18 @@
 CASES as generate.py wrote them, ORACLE and OTHER two programs' answers to them; LIST gets the cases that were chosen, ANSWERS their
 answers. Cases in which the two differ are an error. What a case covers: each command of its tapes under each kind of settings, each pair of
 neighbouring commands on the call tape, attributes alone and in pairs, children by their number, lines of texts by what stands at their ends, pragmas of
-comments by what stands around them, pragmas by their parts, each refusal with the command it speaks of and all faults of that command's spans, each setting, each form
-of the record tape. Short cases are taken first. The settings, calls, notices and records are the Rust's; the numbers and figures of refusals, which the Rust doesn't have, are OTHER's.
+comments by what stands around them, pragmas by their parts and by the first part that fails, options that a comment overrides, each refusal with the command it speaks of and
+all faults of that command's spans, each setting, each form of the record tape. Short cases are taken first. The settings, calls, notices and records are the Rust's. What
+the Rust doesn't have: the notices of openings are the model's, the numbers and figures of refusals OTHER's.
 """
 
 import heapq
-import itertools
 import re
 import sys
 
 from cases import pack, unpack
-from compare import agrees, cases
-from model import ENDS, RESERVED, WHITE, read_root, span_faults
+from compare import agrees, cases, oracle_answers
+from model import ENDS, RESERVED, WHITE, first_failing, open_job, parts_of, read_root, span_faults
 
 WHITE = "".join(WHITE)
 
@@ -96,14 +96,36 @@ def in_comments(job, text, pair):
             yield "comment", sign[1], before if before in b" \t\r\n*@" else None
             yield "keyword", pair, word, sign[4] == b"", b"@jsx" in comment[sign.end():]
             yield "behind", behind, comment[sign.end() + 1:][:1] == b"@"
+            another = re.match(rb"[\t-\r *]*@jsx(|Frag|ImportSource|Runtime)[ \t]", comment[sign.end():])
+            if sign[1] and word is not None and sign[4] == b"" and another:
+                yield "no value", word, another[1]
 
 
-def pragma_shape(pragma):
-    """A pragma by the parts between its dots."""
-    kinds = ((r"", "empty"), (r"this|import|meta", None), ("|".join(RESERVED), "reserved"), (r"[A-Za-z$_][\w$]*", "name"), (r"\d.*", "digit"))
-    for part in pragma.split("."):
-        kind = next((kind or part for expression, kind in kinds if re.fullmatch(expression, part, re.A)), "other")
-        yield kind
+def part_kind(part):
+    kinds = ((r"", "empty"), (r"this|import|meta", part), ("|".join(RESERVED), "reserved"), (r"[A-Za-z$_][\w$]*", "name"), (r"\d.*", "digit"))
+    return next((kind for expression, kind in kinds if re.fullmatch(expression, part, re.A)), "other")
+
+
+def pragma_shape(text, span):
+    """A pragma by its first parts, or by its root and the first part that fails."""
+    parts = parts_of(text, span)
+    number = first_failing(parts)
+    if number is None:
+        return "valid", *map(part_kind, parts[:2])
+    return "invalid", min(number, 3), part_kind(parts[0]), part_kind(parts[number])
+
+
+def in_pragmas(job, text, mode):
+    """The pragmas in force, and of options that a comment overrides whether the one and the other are valid."""
+    given = {job[at]: tuple(int.from_bytes(job[at + i:at + i + 2], "little") for i in (1, 3)) for at in range(3, len(job), 5)}
+    settings, told = open_job(job, text)
+    yield "told", mode, len(told)
+    for code, span in ((0x62, settings.pragma), (0x63, settings.frag)):
+        shapes = [pragma_shape(text, each) for each in (span, given.get(code)) if each is not None]
+        if shapes:
+            yield "pragma", mode[0], code, shapes[0][:None if mode[0] == "classic" else 1]
+        if given.get(code) not in (None, span):
+            yield "overridden", mode[0], code, *(shape[0] for shape in shapes)
 
 
 def spoken_of(number, figure, text, tape, known):
@@ -128,14 +150,12 @@ def covered(job, text, roots, answer):
         found.add(("opening", words[2], spoken_of(words[2], int(words[3]), text, job, OPENINGS)))
         return found
     shown = [word[:1] if word.startswith("'") else word for word in words[1:]]
-    for word, form in zip(words, words[1:]):
-        if word.startswith("'") and "." in form:
-            found.add(("pragma", form.split(".")[0], *itertools.islice(pragma_shape(bytes.fromhex(word[1:]).decode()), 3)))
     mode = (shown[0], shown[shown.index("development") + 1])
     plugins = tuple(shown[shown.index(word) + 1] for word in ("self", "source"))
     found.update(in_comments(job, text, "1" in (shown[shown.index("plugin") + 1], mode[1])))
+    found.update(in_pragmas(job, text, mode))
     found.update(("setting", mode, number, word) for number, word in enumerate(shown))
-    root, fills = None, {"calls": 0, "notices": 0}
+    root, fills, tells = None, {"calls": 0, "notices": 0}, answer[2].startswith("notices")
     for line in answer[2:]:
         kind, *rest = line.split(" ")
         if kind in fills:
@@ -143,7 +163,7 @@ def covered(job, text, roots, answer):
         if kind == "root":
             root = roots[int(rest[0])]
             if rest[1] == "refused" and rest[2] in ("10", "11"):
-                found.add(("root", rest[2], fills["calls" if rest[2] == "10" else "notices"] > 0))
+                found.add(("root", rest[2], fills["calls" if rest[2] == "10" else "notices"] > 0, tells))
             elif rest[1] == "refused":
                 found.add(("root", rest[2], spoken_of(rest[2], int(rest[3]), text, root, ROOTS)))
         elif kind == "calls":
@@ -154,8 +174,8 @@ def covered(job, text, roots, answer):
             found.update(("call command", mode, command) for command in out)
             found.update(("neighbours", mode[0], pair) for pair in zip(out, out[1:]))
         elif kind == "notices":
-            found.add(("room left", fills[kind] < 1024))
-            found.add(("notices", tuple(re.findall("c[01]", line))[:3]))
+            found.add(("room left", fills[kind] < 1024, tells))
+            found.add(("notices", tuple(re.findall("c[012]", line))[:3]))
         elif kind == "records":
             found.add(("records", line))
     return found
@@ -165,7 +185,7 @@ def main():
     with open(sys.argv[1], "rb") as file:
         inputs = list(unpack(file.read()))
     candidates = []
-    for case, ours, theirs in zip(inputs, cases(sys.argv[2]), cases(sys.argv[3]), strict=True):
+    for case, ours, theirs in zip(inputs, oracle_answers(inputs, sys.argv[2]), cases(sys.argv[3]), strict=True):
         if len(ours) != len(theirs) or not all(map(agrees, ours, theirs)):
             sys.exit(f"{ours[0]}: the two differ")
         answer = [other if " refused" in mine else mine for mine, other in zip(ours, theirs)]

@@ -180,12 +180,13 @@ class Printer:
 def notices(text, tape):
     at, lines = 0, []
     while at < len(tape):
-        spans = [tape[at + 1:at + 5]] if tape[at] == 0xC0 else [tape[at + 1:at + 5], tape[at + 5:at + 9]]
+        spans = [tape[at + 1:at + 5], tape[at + 5:at + 9]] if tape[at] == 0xC1 else [tape[at + 1:at + 5]]
         words = []
         for span in spans:
             start, size = int.from_bytes(span[:2], "little"), int.from_bytes(span[2:], "little")
             words.append(text[start:start + size].decode())
-        lines.append("notice: key without value" if tape[at] == 0xC0 else "notice: namespaced tag " + ":".join(words))
+        said = {0xC0: "key without value", 0xC1: "namespaced tag " + ":".join(words), 0xC2: f"pragma not valid at byte {start}: `{words[0]}`"}
+        lines.append("notice: " + said[tape[at]])
         at += 1 + 4 * len(spans)
     return lines
 

@@ -1,4 +1,5 @@
 -- Demand 3, whole: for any accepted opening, any targets and any list of roots. What a series has come to (`Came`) gives each field of the claim.
+--     kept        what is claimed, from what an accepted opening leaves
 --     demand3     `Demand3` of specs/Claim
 -- Assumes nothing.
 use mathlib.Core.Path.{_≡_, sym, ap, _∙_}
@@ -21,7 +22,8 @@ use Rattle.definitions.specs.States.{live, unrepeated}
 use Rattle.definitions.specs.Entries.{recordsFrom, judgeWriting, judgeRecords, recordsAnswer, recordsTarget}
 use Rattle.definitions.specs.Series.{World, opening, series, acceptedIn, treesOf, callsSoFar, noticesSoFar}
 use Rattle.definitions.specs.Callees.{calleeNamed, calleesOfRoots, calleesRead}
-use Rattle.definitions.specs.Claim.{mentioned, recordsTape, recordsSoFar, count, isOf, shares, says, Demand3}
+use Rattle.definitions.specs.Opening.{openingBytes}
+use Rattle.definitions.specs.Claim.{mentioned, recordsTape, recordsSoFar, count, isOf, shares, says, Kept, Demand3}
 use Rattle.definitions.proofs.ReadBack.{calls-back}
 use Rattle.definitions.proofs.Numbering.{importsOf, AllBound, all-bound, bound-after, bound-append, after-grows, numbered-at-last, mention-below, below-mention}
 use Rattle.definitions.proofs.Soundness.{imports-records}
@@ -32,7 +34,7 @@ use Rattle.definitions.proofs.EntryBytes.{tape-bytes}
 use Rattle.definitions.proofs.BoundEntries.{entriesFor, of-below, of-once, shared-once, more-entries}
 use Rattle.definitions.proofs.CalleeTree.{commandsOfRoots, all-callees}
 use Rattle.definitions.proofs.CalleeRecords.{callees-read}
-use Rattle.definitions.proofs.RootSeries.{noticesOfRoots, commands-roots, calls-of-all, notices-of-all, calls-roots, notice-roots, Came, opened}
+use Rattle.definitions.proofs.RootSeries.{noticesOfRoots, commands-roots, calls-of-all, notices-of-all, calls-roots, later-notices, Came, opened}
 use Rattle.definitions.proofs.RootSeries.{refused-same, came, series-append}
 
 -- ---- a series that has come to the commands of some roots
@@ -79,7 +81,7 @@ module _ (text : List ℕ) (s : Settings) (w : World) (rs : List Root) (c : Came
       (callees-read (placeIn (s .mode)) things (recordsSoFar w) records-are commands b ∙ all-callees text s e rs)
 
   -- the records are written where there is space
-  writes : Opens text s → (room : ℕ) → length (recordsTape w) ≤ room → judgeRecords text (w .state) room ≡ accepted (recordsTape w)
+  writes : {noticeRoom : ℕ} → Opens text s noticeRoom → (room : ℕ) → length (recordsTape w) ≤ room → judgeRecords text (w .state) room ≡ accepted (recordsTape w)
   unfolding judgeRecords judgeWriting refuse refuseAt
   writes o room h = rw (o .short, o .well-formed, c .bore, le-ltb room (length (recordsTape w)) h)
 
@@ -93,7 +95,7 @@ module _ (text : List ℕ) (s : Settings) (w w′ : World) (rs ts : List Root) (
   calls-later = (callBytes (numberedAll bound-then (commandsOfRoots text s ts)), d .calls ∙ calls-roots text s rs ts ∙ rw (c .calls))
 
   notices-later : (rest : List ℕ) × (noticesSoFar w′ ≡ noticesSoFar w ++ rest)
-  notices-later = (noticeBytes (noticesOfRoots text s ts), d .notices ∙ notice-roots text s rs ts ∙ rw (c .notices))
+  notices-later = (noticeBytes (noticesOfRoots text s ts), d .notices ∙ sym (later-notices text s rs ts) ∙ rw (c .notices))
 
   records-later : (p : Entry → Bool) → count p (recordsSoFar w) ≤ count p (recordsSoFar w′)
   records-later p =
@@ -104,12 +106,12 @@ module _ (text : List ℕ) (s : Settings) (w w′ : World) (rs ts : List Root) (
 
 -- ---- the claim
 
-pub demand3 : Demand3
+pub kept : (text : List ℕ) (s : Settings) (calls notices : List ℕ) → Opens text s (length notices) → (roots : List (List ℕ)) → Kept text s calls notices roots
 unfolding recordsAnswer recordsTarget
-demand3 text job s e calls notices roots =
+kept text s calls notices o roots =
     record {
       calls-so-far = c .calls ∙ sym (calls-of-all text s [] rs);
-      notices-so-far = c .notices ∙ sym (notices-of-all text s [] rs);
+      notices-so-far = c .notices ∙ ap (_++_ (openingBytes text s)) (sym (notices-of-all text s [] rs));
       calls-read = calls-whole text s w rs c;
       records-read = tape-bytes (w .state .settings .mode) (live (w .state));
       written-records = λ target h.
@@ -128,11 +130,8 @@ demand3 text job s e calls notices roots =
       refused-leaves = λ tape r h. refused-same text w tape r h;
     }
   where
-    o : Opens text s
-    o = opening-opens text job s e
-
     start : World
-    start = opening s calls notices
+    start = opening text s calls notices
 
     w : World
     w = series text start roots
@@ -141,10 +140,13 @@ demand3 text job s e calls notices roots =
     rs = treesOf text (acceptedIn text start roots)
 
     c : Came text s w rs
-    c = came text s start [] roots (opened text s calls notices (o .bore))
+    c = came text s start [] roots (opened text s calls notices (o .bore) (o .fits))
 
     later-trees : List (List ℕ) → List Root
     later-trees more = treesOf text (acceptedIn text w more)
 
     later : (more : List (List ℕ)) → Came text s (series text w more) (rs ++ later-trees more)
     later more = came text s w rs more c
+
+pub demand3 : Demand3
+demand3 text job s calls notices e roots = kept text s calls notices (opening-opens text job (length notices) s e) roots

@@ -9,6 +9,7 @@ pub mod Verdicts
 pub mod Moving
 pub mod CommentSpans
 pub mod Openings
+pub mod OpeningNotices
 pub mod TapeEntries
 pub mod EntryBytes
 pub mod BoundEntries

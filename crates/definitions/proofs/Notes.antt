@@ -26,7 +26,7 @@ use Rattle.definitions.specs.Reading.{readRoot}
 use Rattle.definitions.specs.declared.options.Settings.{Settings}
 use Rattle.definitions.specs.declared.records.Import.{Import}
 use Rattle.definitions.specs.JsxText.{jsxText}
-use Rattle.definitions.specs.Calls.{Notice, valuelessKey, namespacedTag, noticeBytesOf, noticeBytes}
+use Rattle.definitions.specs.Calls.{Notice, valuelessKey, namespacedTag, invalidPragma, noticeBytesOf, noticeBytes}
 use Rattle.definitions.specs.Calls as call
 use Rattle.definitions.specs.Lowering.{Context, Output, emit, notify, noticesOf, put, putOver, putSpan, piece, joined, colonized, members}
 use Rattle.definitions.specs.Lowering.{lowerName, imported, fragmentTag, isKey, hasValue, hasProto, carried, lowerLiteral, isFound}
@@ -43,6 +43,7 @@ noted [] = 0
 noted (emit c ∷ os) = noted os
 noted (notify (valuelessKey s) ∷ os) = 5 + noted os
 noted (notify (namespacedTag s r) ∷ os) = 9 + noted os
+noted (notify (invalidPragma s) ∷ os) = 5 + noted os
 
 pub notes : (os : List Output) → length (noticeBytes (noticesOf os)) ≡ noted os
 unfolding noticeBytes noticesOf noted noticeBytesOf
@@ -50,6 +51,7 @@ notes [] = refl
 notes (emit c ∷ os) = notes os
 notes (notify (valuelessKey s) ∷ os) = omega (arith, notes os)
 notes (notify (namespacedTag s r) ∷ os) = omega (arith, notes os)
+notes (notify (invalidPragma s) ∷ os) = omega (arith, notes os)
 
 noted-append : (xs ys : List Output) → noted (xs ++ ys) ≡ noted xs + noted ys
 unfolding noted
@@ -57,6 +59,7 @@ noted-append [] ys = omega arith
 noted-append (emit c ∷ xs) ys = noted-append xs ys
 noted-append (notify (valuelessKey s) ∷ xs) ys = omega (arith, noted-append xs ys)
 noted-append (notify (namespacedTag s r) ∷ xs) ys = omega (arith, noted-append xs ys)
+noted-append (notify (invalidPragma s) ∷ xs) ys = omega (arith, noted-append xs ys)
 
 -- ---- parts that notify nobody
 

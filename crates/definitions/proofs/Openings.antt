@@ -1,15 +1,16 @@
 -- An accepted opening leaves a sound state over a well-formed text that is not too long.
 --     Told, opening-told     the spans of an opening tape that is read are in order
 --     Opens, opening-opens   what is known of an accepted opening
+--     options-borne          the options' spans are in order
 --     opening-sound          the state that it leaves is sound
 -- Assumes nothing.
 use mathlib.Core.Path.{_≡_, refl, ap, subst}
 use mathlib.Core.Bool.{true, false}
 use mathlib.Core.List.{List, [], _∷_, _++_}
-use Prim.Native.Nat.{ℕ, zero, suc}
+use Prim.Native.Nat.{ℕ, zero, suc, _≤_}
 use native.Mathlib.Omega.{arith}
 use lib.ListN.{length, drop}
-use borrow.Author.Tests.{eq-eqb}
+use borrow.Author.Tests.{eq-eqb, ltb-false}
 use Rattle.text.specs.declared.bytes.Found.the-variants as found
 use Rattle.text.specs.declared.spans.Span.{Span}
 use Rattle.text.specs.declared.spans.Bounds.{Bounds}
@@ -27,7 +28,7 @@ use Rattle.definitions.specs.declared.options.Options.{Options}
 use Rattle.definitions.specs.declared.options.Settings.{Settings}
 use Rattle.definitions.specs.Judging.{Parsed, done, stop, from, spanned, accepted, tooLong}
 use Rattle.definitions.specs.Opening.{Opening, bare, withPragma, withPragmaFrag, withImportSource, andComment, optionBy, optionsFrom, openingBy}
-use Rattle.definitions.specs.Opening.{readOpening, optionsOf, settingsOf, overAsciiIn, ifClassic, pragmasChecked, judgeOpening}
+use Rattle.definitions.specs.Opening.{readOpening, optionsOf, settingsOf, openingBytes, overAsciiIn, ifClassic, pragmasChecked, noticesFitted, judgeOpening}
 use Rattle.definitions.specs.States.{inOrder, borneOut, rootNumber, sameForm, formBorneOut, numberedFrom, unrepeated, allBindable, sound}
 use Rattle.definitions.specs.Entries.{openState}
 use Rattle.definitions.proofs.Counting.{either-false}
@@ -112,7 +113,7 @@ module _ (text : List ℕ) (p : Opening) where
 
 -- ---- an accepted opening
 
-options-borne : (text : List ℕ) → firstIll text ≡ found.Nothing → (o : Opening) → Told text o → Borne text (optionsOf text o)
+pub options-borne : (text : List ℕ) → firstIll text ≡ found.Nothing → (o : Opening) → Told text o → Borne text (optionsOf text o)
 unfolding optionsOf borneOut
 options-borne text good o h =
     comments-borne text good _ (o .comments) (h .comments)
@@ -127,7 +128,7 @@ Ascii text s =
     (ifClassic (s .mode) (overAsciiIn text (s .options .pragma)) ≡ found.Nothing)
     × (ifClassic (s .mode) (overAsciiIn text (s .options .«pragma_frag»)) ≡ found.Nothing)
 
-open-sound : (text : List ℕ) (o : Options) → Borne text o → Ascii text (settingsOf text o) → Sound text (openState (settingsOf text o))
+open-sound : (text : List ℕ) (o : Options) → Borne text o → Ascii text (settingsOf text o) → Sound text (openState text (settingsOf text o))
 unfolding settingsOf formBorneOut numberedFrom unrepeated allBindable
 open-sound text o h a =
     record {
@@ -139,27 +140,30 @@ open-sound text o h a =
       made = refl;
     }
 
-pub record Opens (text : List ℕ) (s : Settings) : Type 0 where
+pub record Opens (text : List ℕ) (s : Settings) (room : ℕ) : Type 0 where
   pub short : tooLong text ≡ false
   pub well-formed : firstIll text ≡ found.Nothing
-  pub bore : sound text (openState s) ≡ true
+  pub bore : sound text (openState text s) ≡ true
+  pub fits : length (openingBytes text s) ≤ room
 
-pub opening-opens : (text job : List ℕ) (s : Settings) → judgeOpening text job ≡ accepted s → Opens text s
-unfolding judgeOpening pragmasChecked
-opening-opens text job s e =
+pub opening-opens : (text job : List ℕ) (room : ℕ) (s : Settings) → judgeOpening text job room ≡ accepted s → Opens text s room
+unfolding judgeOpening pragmasChecked noticesFitted
+opening-opens text job room s e =
     let a = past _ _ _ _ e in
     let b = past-at _ _ _ _ (a .1) in
     let d = past-read _ _ _ (b .1) in
     let f = past-at _ _ _ _ (d .3) in
     let g = past-at _ _ _ _ (f .1) in
+    let h = past _ _ _ _ (g .1) in
     let o = optionsOf text (d .0) in
-    let q : settingsOf text o ≡ s = accepted-same (settingsOf text o) s (g .1) in
+    let q : settingsOf text o ≡ s = accepted-same (settingsOf text o) s (h .1) in
     let borne = options-borne text (b .0) (d .0) (opening-told text (d .0) job (d .1) (d .2)) in
     record {
       short = either-false (tooLong text) (tooLong job) (a .0) .0;
       well-formed = b .0;
-      bore = rw (← q) (sound-whole text (openState (settingsOf text o)) (open-sound text o borne (f .0, g .0)));
+      bore = rw (← q) (sound-whole text (openState text (settingsOf text o)) (open-sound text o borne (f .0, g .0)));
+      fits = subst (λ (x : Settings). length (openingBytes text x) ≤ room) q (ltb-false room _ (h .0));
     }
 
-pub opening-sound : (text job : List ℕ) (s : Settings) → judgeOpening text job ≡ accepted s → sound text (openState s) ≡ true
-opening-sound text job s e = opening-opens text job s e .bore
+pub opening-sound : (text job : List ℕ) (room : ℕ) (s : Settings) → judgeOpening text job room ≡ accepted s → sound text (openState text s) ≡ true
+opening-sound text job room s e = opening-opens text job room s e .bore

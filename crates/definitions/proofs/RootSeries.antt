@@ -1,15 +1,15 @@
 -- What a series of roots has come to, said by the trees of the accepted roots alone: one list of commands, numbered from none, and one list of notices.
 --     calls-of-all, notices-of-all     each root's calls in turn are the calls of all commands
---     Came                             what a series has come to
+--     Came, opened                     what a series has come to, and what it comes from
 --     came                             every series from a sound state comes to that
 --     series-append                    a longer list of roots
 -- Assumes nothing.
 use mathlib.Core.Path.{_≡_, refl, sym, ap, subst, _∙_}
 use mathlib.Core.Bool.{true}
 use mathlib.Core.List.{List, [], _∷_, _++_, append-nil, append-assoc}
-use Prim.Native.Nat.{ℕ, _≤_}
+use Prim.Native.Nat.{ℕ, _+_, _≤_}
 use native.Mathlib.Omega.{arith}
-use lib.ListN.{length}
+use lib.ListN.{length, take}
 use Rattle.tape.specs.declared.refusal.Refusal.{Refusal}
 use Rattle.definitions.specs.declared.options.Settings.{Settings}
 use Rattle.definitions.specs.declared.records.Import.{Import}
@@ -18,16 +18,18 @@ use Rattle.definitions.specs.declared.state.Answer.the-variants as answe
 use Rattle.definitions.specs.Judging.{Judged, accepted, refused}
 use Rattle.definitions.specs.Tree.{Root}
 use Rattle.definitions.specs.Reading.{readRoot}
-use Rattle.definitions.specs.Calls.{Command, bytesOf, callBytes, Notice, noticeBytesOf, noticeBytes}
+use Rattle.definitions.specs.Calls.{Command, bytesOf, callBytes, Notice, noticeBytes}
 use Rattle.definitions.specs.Store.{boundAfter, numberedAll}
 use Rattle.definitions.specs.Lowering.{lowerRoot, commandsOf, noticesOf}
 use Rattle.definitions.specs.States.{live, imports, sound}
-use Rattle.definitions.specs.Entries.{openState, Lowered, loweredAfter, judgeRoot, recordsFrom, moved, outcomeBy, rootOutcome}
+use Rattle.definitions.specs.Opening.{openingBytes}
+use Rattle.definitions.specs.Entries.{laid, openState, Lowered, loweredAfter, judgeRoot, recordsFrom, moved, outcomeBy, rootOutcome}
 use Rattle.definitions.specs.Series.{World, opening, outcomeIn, next, series, ifAccepted, acceptedIn, treeOf, treesOf, callsOfAll, noticesOfAll, callsSoFar, noticesSoFar}
 use Rattle.definitions.proofs.Numbering.{bound-append, numbered-append}
 use Rattle.definitions.proofs.Soundness.{imports-records}
 use Rattle.definitions.proofs.Verdicts.{length-laid, take-laid, Taken, root-taken}
 use Rattle.definitions.proofs.Moving.{moved-live, root-sound}
+use Rattle.definitions.proofs.OpeningNotices.{notice-append}
 use Rattle.definitions.proofs.CalleeTree.{commandsOfRoots}
 
 -- ---- the commands and the notices of roots
@@ -40,11 +42,6 @@ bytes-append : (cs ds : List (Command ℕ)) → callBytes (cs ++ ds) ≡ callByt
 unfolding callBytes
 bytes-append [] ds = refl
 bytes-append (c ∷ cs) ds = rw (bytes-append cs ds) (sym (append-assoc (bytesOf c) (callBytes cs) (callBytes ds)))
-
-notice-append : (ns ms : List Notice) → noticeBytes (ns ++ ms) ≡ noticeBytes ns ++ noticeBytes ms
-unfolding noticeBytes
-notice-append [] ms = refl
-notice-append (n ∷ ns) ms = rw (notice-append ns ms) (sym (append-assoc (noticeBytesOf n) (noticeBytes ns) (noticeBytes ms)))
 
 module _ (text : List ℕ) (s : Settings) where
   pub commands-roots : (rs ts : List Root) → commandsOfRoots text s (rs ++ ts) ≡ commandsOfRoots text s rs ++ commandsOfRoots text s ts
@@ -90,6 +87,14 @@ module _ (text : List ℕ) (s : Settings) where
       → noticeBytes (noticesOfRoots text s (rs ++ ts)) ≡ noticeBytes (noticesOfRoots text s rs) ++ noticeBytes (noticesOfRoots text s ts)
   notice-roots rs ts = rw (notices-roots rs ts) (notice-append (noticesOfRoots text s rs) (noticesOfRoots text s ts))
 
+  -- behind the opening's
+  pub later-notices : (rs ts : List Root)
+      → (openingBytes text s ++ noticeBytes (noticesOfRoots text s rs)) ++ noticeBytes (noticesOfRoots text s ts)
+      ≡ openingBytes text s ++ noticeBytes (noticesOfRoots text s (rs ++ ts))
+  later-notices rs ts =
+      append-assoc (openingBytes text s) (noticeBytes (noticesOfRoots text s rs)) (noticeBytes (noticesOfRoots text s ts))
+      ∙ ap (_++_ (openingBytes text s)) (sym (notice-roots rs ts))
+
 -- ---- what a series has come to
 
 pub record Came (text : List ℕ) (s : Settings) (w : World) (rs : List Root) : Type 0 where
@@ -99,19 +104,26 @@ pub record Came (text : List ℕ) (s : Settings) (w : World) (rs : List Root) : 
   pub notices-within : w .state .notices ≤ length (w .notices)
   pub recs : live (w .state) ≡ recordsFrom 0 (boundAfter [] (commandsOfRoots text s rs))
   pub calls : callsSoFar w ≡ callBytes (numberedAll [] (commandsOfRoots text s rs))
-  pub notices : noticesSoFar w ≡ noticeBytes (noticesOfRoots text s rs)
+  pub notices : noticesSoFar w ≡ openingBytes text s ++ noticeBytes (noticesOfRoots text s rs)
 
-pub opened : (text : List ℕ) (s : Settings) (calls notices : List ℕ) → sound text (openState s) ≡ true → Came text s (opening s calls notices) []
+-- what stands at the front of a target behind bytes laid there
+pub front-laid : (bs target : List ℕ) → length bs ≤ length target → take (length bs) (laid 0 bs target) ≡ bs
+front-laid bs target h =
+    let z : length bs ≡ 0 + length bs = omega arith in
+    ap (λ (k : ℕ). take k (laid 0 bs target)) z ∙ take-laid 0 bs target (omega arith)
+
+pub opened : (text : List ℕ) (s : Settings) (calls notices : List ℕ) → sound text (openState text s) ≡ true → length (openingBytes text s) ≤ length notices
+    → Came text s (opening text s calls notices) []
 unfolding commandsOfRoots noticesOfRoots boundAfter numberedAll callBytes noticeBytes recordsFrom
-opened text s calls notices h =
+opened text s calls notices h fits =
     record {
       settings = refl;
       bore = h;
       calls-within = omega arith;
-      notices-within = omega arith;
+      notices-within = rw (length-laid 0 (openingBytes text s) notices (omega arith)) fits;
       recs = refl;
       calls = refl;
-      notices = refl;
+      notices = front-laid (openingBytes text s) notices fits ∙ sym (append-nil (openingBytes text s));
     }
 
 -- ---- one root
@@ -195,7 +207,7 @@ module _ (text : List ℕ) (s : Settings) (w : World) (rs : List Root) (tape : L
             ∙ rw (c .calls, l-calls) (sym (calls-roots text s rs (t .root ∷ [])));
         notices =
             take-laid (w .state .notices) (l .notices) (w .notices) (t .notices-fit)
-            ∙ rw (c .notices, l-notices) (sym (notice-roots text s rs (t .root ∷ [])));
+            ∙ rw (c .notices, l-notices) (later-notices text s rs (t .root ∷ []));
       }
 
 taken : (text : List ℕ) (s : Settings) (w : World) (rs : List Root) (tape : List ℕ) (l : Lowered) → Came text s w rs → judged text w tape ≡ accepted l

@@ -28,7 +28,7 @@ use Rattle.definitions.specs.Tree.{noChildren, textChild, expressionChil
 use Rattle.definitions.specs.Tree as tree
 use Rattle.definitions.specs.Pragmas.{onto}
 use Rattle.definitions.specs.JsxText.{Placed, charsFrom, linesOf, trimFront, trimBack, laterLines, spansOf, keptLines, jsxText}
-use Rattle.definitions.specs.Calls.{Command, bare, byte, over, span, binding, source, Notice, valuelessKey, namespacedTag, bytesOf, callBytes, noticeBytesOf, noticeBytes}
+use Rattle.definitions.specs.Calls.{Command, bare, byte, over, span, binding, source, Notice, valuelessKey, namespacedTag, invalidPragma, bytesOf, callBytes, noticeBytesOf, noticeBytes}
 use Rattle.definitions.specs.Calls as call
 use Rattle.definitions.specs.Store.{boundBy, numbered, numberedAll}
 use Rattle.definitions.specs.Lowering.{Context, Output, emit, notify, commandsOf, noticesOf, put, putByte, putOver, putSpan, piece, quoted}
@@ -52,6 +52,7 @@ abbrev pub outputSize : Output → ℕ
 outputSize (emit c) = commandSize c
 outputSize (notify (valuelessKey s)) = 5
 outputSize (notify (namespacedTag s r)) = 9
+outputSize (notify (invalidPragma s)) = 5
 
 unfoldable pub weight : List Output → ℕ
 weight [] = 0
@@ -78,6 +79,7 @@ calls-weigh js (emit c ∷ os) =
     omega (arith, calls-weigh (boundBy js c) os, numbered-size js c, length-append (bytesOf (numbered js c)) (callBytes (numberedAll (boundBy js c) (commandsOf os))))
 calls-weigh js (notify (valuelessKey s) ∷ os) = omega (arith, calls-weigh js os)
 calls-weigh js (notify (namespacedTag s r) ∷ os) = omega (arith, calls-weigh js os)
+calls-weigh js (notify (invalidPragma s) ∷ os) = omega (arith, calls-weigh js os)
 
 pub notices-weigh : (os : List Output) → length (noticeBytes (noticesOf os)) ≤ weight os
 unfolding noticeBytes noticesOf weight noticeBytesOf
@@ -85,6 +87,7 @@ notices-weigh [] = omega arith
 notices-weigh (emit c ∷ os) = omega (arith, notices-weigh os)
 notices-weigh (notify (valuelessKey s) ∷ os) = omega (arith, notices-weigh os)
 notices-weigh (notify (namespacedTag s r) ∷ os) = omega (arith, notices-weigh os)
+notices-weigh (notify (invalidPragma s) ∷ os) = omega (arith, notices-weigh os)
 
 -- ---- a text has no more lines than bytes, and one
 

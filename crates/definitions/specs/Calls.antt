@@ -36,10 +36,11 @@ pub data Command (B : Type 0) : Type 0 where
   binding : B → Command B
   source : B → Place → Command B
 
--- "C0 S: key without value. C1 S S: namespaced tag under throw_if_namespace."
+-- "C0 S: key without value. C1 S S: namespaced tag under throw_if_namespace."; "notice C2 S, S being that part": the first part of a pragma that fails
 pub data Notice : Type 0 where
   valuelessKey : Span → Notice
   namespacedTag : Span → Span → Notice
+  invalidPragma : Span → Notice
 
 -- ---- their bytes
 
@@ -98,6 +99,7 @@ callBytes (c ∷ cs) = bytesOf c ++ callBytes cs
 unfoldable pub noticeBytesOf : Notice → List ℕ
 noticeBytesOf (valuelessKey s) = 0xc0 ∷ spanBytes s
 noticeBytesOf (namespacedTag s t) = 0xc1 ∷ spanBytes s ++ spanBytes t
+noticeBytesOf (invalidPragma s) = 0xc2 ∷ spanBytes s
 
 unfoldable pub noticeBytes : List Notice → List ℕ
 noticeBytes [] = []

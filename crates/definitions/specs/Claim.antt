@@ -12,7 +12,7 @@ use Rattle.definitions.specs.declared.state.Answer.the-variants as answe
 use Rattle.definitions.specs.declared.state.Written.{Written}
 use Rattle.definitions.specs.declared.state.Written.the-variants as written
 use Rattle.definitions.specs.Judging.{Judged, accepted}
-use Rattle.definitions.specs.Opening.{judgeOpening}
+use Rattle.definitions.specs.Opening.{openingBytes, judgeOpening}
 use Rattle.definitions.specs.Calls.{Command, bare, byte, over, span, binding, source, callBytes, readCalls}
 use Rattle.definitions.specs.Lowering.{isClassic}
 use Rattle.definitions.specs.Records.{recordTape, Entry, named, required, file, readRecords, outside, entryBytes}
@@ -82,69 +82,69 @@ says (file b p) (file c q) = eqb b c && eqb p q
 -- ---- the claim
 
 pub record Kept (text : List ℕ) (s : Settings) (calls notices : List ℕ) (roots : List (List ℕ)) : Type 0 where
-  -- the calls so far are what the rules give from the text, the settings and the accepted roots alone, and so are the notices
+  -- the calls so far are what the rules give from the text, the settings and the accepted roots alone; the notices so far are the opening's, then the roots'
   pub calls-so-far :
-      callsSoFar (series text (opening s calls notices) roots)
-      ≡ callsOfAll text s [] (treesOf text (acceptedIn text (opening s calls notices) roots))
+      callsSoFar (series text (opening text s calls notices) roots)
+      ≡ callsOfAll text s [] (treesOf text (acceptedIn text (opening text s calls notices) roots))
   pub notices-so-far :
-      noticesSoFar (series text (opening s calls notices) roots)
-      ≡ noticesOfAll text s [] (treesOf text (acceptedIn text (opening s calls notices) roots))
+      noticesSoFar (series text (opening text s calls notices) roots)
+      ≡ openingBytes text s ++ noticesOfAll text s [] (treesOf text (acceptedIn text (opening text s calls notices) roots))
   -- the readers of both tapes reach their ends: the calls so far are the bytes of the commands read, and the record tape those of the records read
   pub calls-read :
-      callBytes (readCalls (callsSoFar (series text (opening s calls notices) roots))) ≡ callsSoFar (series text (opening s calls notices) roots)
+      callBytes (readCalls (callsSoFar (series text (opening text s calls notices) roots))) ≡ callsSoFar (series text (opening text s calls notices) roots)
   pub records-read :
-      entryBytes outside (recordsSoFar (series text (opening s calls notices) roots)) ≡ recordsTape (series text (opening s calls notices) roots)
+      entryBytes outside (recordsSoFar (series text (opening text s calls notices) roots)) ≡ recordsTape (series text (opening text s calls notices) roots)
   -- the records are written wherever there is space for them
   pub written-records :
       (target : List ℕ)
-      → length (recordsTape (series text (opening s calls notices) roots)) ≤ length target
-      → (recordsAnswer (judgeRecords text (series text (opening s calls notices) roots .state) (length target))
-      ≡ written.Accepted (length (recordsTape (series text (opening s calls notices) roots))))
-      × (recordsTarget target (judgeRecords text (series text (opening s calls notices) roots .state) (length target))
-      ≡ laid 0 (recordsTape (series text (opening s calls notices) roots)) target)
+      → length (recordsTape (series text (opening text s calls notices) roots)) ≤ length target
+      → (recordsAnswer (judgeRecords text (series text (opening text s calls notices) roots .state) (length target))
+      ≡ written.Accepted (length (recordsTape (series text (opening text s calls notices) roots))))
+      × (recordsTarget target (judgeRecords text (series text (opening text s calls notices) roots .state) (length target))
+      ≡ laid 0 (recordsTape (series text (opening text s calls notices) roots)) target)
   -- each binding that the calls so far mention has exactly one record
   pub one-record :
       (b : ℕ)
-      → 0 < count (eqb b) (mentioned (series text (opening s calls notices) roots))
-      → count (isOf b) (recordsSoFar (series text (opening s calls notices) roots)) ≡ 1
+      → 0 < count (eqb b) (mentioned (series text (opening text s calls notices) roots))
+      → count (isOf b) (recordsSoFar (series text (opening text s calls notices) roots)) ≡ 1
   -- each record is mentioned
   pub each-mentioned :
       (b : ℕ)
-      → 0 < count (isOf b) (recordsSoFar (series text (opening s calls notices) roots))
-      → 0 < count (eqb b) (mentioned (series text (opening s calls notices) roots))
+      → 0 < count (isOf b) (recordsSoFar (series text (opening text s calls notices) roots))
+      → 0 < count (eqb b) (mentioned (series text (opening text s calls notices) roots))
   -- no two records share source and name
-  pub none-shared : (e : Entry) → count (shares e) (recordsSoFar (series text (opening s calls notices) roots)) ≤ 1
+  pub none-shared : (e : Entry) → count (shares e) (recordsSoFar (series text (opening text s calls notices) roots)) ≤ 1
   -- whatever roots follow, the calls so far begin the calls then, and the notices so far the notices then
   pub calls-begin :
       (more : List (List ℕ))
       → (rest : List ℕ)
-      × (callsSoFar (series text (opening s calls notices) (roots ++ more)) ≡ callsSoFar (series text (opening s calls notices) roots) ++ rest)
+      × (callsSoFar (series text (opening text s calls notices) (roots ++ more)) ≡ callsSoFar (series text (opening text s calls notices) roots) ++ rest)
   pub notices-begin :
       (more : List (List ℕ))
       → (rest : List ℕ)
-      × (noticesSoFar (series text (opening s calls notices) (roots ++ more)) ≡ noticesSoFar (series text (opening s calls notices) roots) ++ rest)
+      × (noticesSoFar (series text (opening text s calls notices) (roots ++ more)) ≡ noticesSoFar (series text (opening text s calls notices) roots) ++ rest)
   -- and no record is lost or says anything else
   pub records-stay :
       (more : List (List ℕ)) (e : Entry)
-      → count (says e) (recordsSoFar (series text (opening s calls notices) roots))
-      ≤ count (says e) (recordsSoFar (series text (opening s calls notices) (roots ++ more)))
+      → count (says e) (recordsSoFar (series text (opening text s calls notices) roots))
+      ≤ count (says e) (recordsSoFar (series text (opening text s calls notices) (roots ++ more)))
   -- under automatic settings the callees on the tape are those of the elements and fragments lowered, one call each
   pub callees :
       isClassic (s .mode) ≡ false
       → calleesRead
-      (recordsSoFar (series text (opening s calls notices) roots))
-      (readCalls (callsSoFar (series text (opening s calls notices) roots)))
-      ≡ map calleeNamed (calleesOfRoots text (s .options .flags .development) (treesOf text (acceptedIn text (opening s calls notices) roots)))
+      (recordsSoFar (series text (opening text s calls notices) roots))
+      (readCalls (callsSoFar (series text (opening text s calls notices) roots)))
+      ≡ map calleeNamed (calleesOfRoots text (s .options .flags .development) (treesOf text (acceptedIn text (opening text s calls notices) roots)))
   -- a root that is refused then changes nothing
   pub refused-leaves :
       (tape : List ℕ) (r : Refusal)
-      → outcomeIn text (series text (opening s calls notices) roots) tape .stepped .answer ≡ answer.Refused r
-      → next text (series text (opening s calls notices) roots) tape ≡ series text (opening s calls notices) roots
+      → outcomeIn text (series text (opening text s calls notices) roots) tape .stepped .answer ≡ answer.Refused r
+      → next text (series text (opening text s calls notices) roots) tape ≡ series text (opening text s calls notices) roots
 
--- Demand 3: after any accepted opening, over any targets, for any list of roots
+-- Demand 3: over any targets, after any opening that is accepted there, for any list of roots
 abbrev pub Demand3 : Type 0
 Demand3 =
-    (text job : List ℕ) (s : Settings)
-    → judgeOpening text job ≡ accepted s
-    → (calls notices : List ℕ) (roots : List (List ℕ))
+    (text job : List ℕ) (s : Settings) (calls notices : List ℕ)
+    → judgeOpening text job (length notices) ≡ accepted s
+    → (roots : List (List ℕ))
     → Kept text s calls notices roots

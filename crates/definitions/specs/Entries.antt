@@ -20,7 +20,7 @@ use Rattle.definitions.specs.declared.state.Written.{Written}
 use Rattle.definitions.specs.declared.state.Written.the-variants as written
 use Rattle.definitions.specs.Judging.{Judged, accepted, refused, refuse, tooLong, read, judgeState}
 use Rattle.definitions.specs.Options.{flagsOf}
-use Rattle.definitions.specs.Opening.{judgeOpening, settingsOf}
+use Rattle.definitions.specs.Opening.{openingBytes, judgeOpening, settingsOf}
 use Rattle.definitions.specs.Tree.{Root}
 use Rattle.definitions.specs.Reading.{readRoot}
 use Rattle.definitions.specs.Calls.{Command, callBytes, noticeBytes}
@@ -38,9 +38,9 @@ laid at bs target = take at target ++ bs ++ drop (at + length bs) target
 abbrev pub noRecord : Record
 noRecord = record { import = FileName; binding = 0 }
 
--- a state with no records and nothing written
-abbrev pub openState : Settings → State
-openState s = record { settings = s; records = replicate 8 noRecord; count = 0; calls = 0; notices = 0 }
+-- a state with no records, no calls, and the opening's notices
+abbrev pub openState : List ℕ → Settings → State
+openState text s = record { settings = s; records = replicate 8 noRecord; count = 0; calls = 0; notices = length (openingBytes text s) }
 
 -- what a refused opening returns: a state that every entry refuses as forged, since it has over 8 records
 abbrev pub noJob : State
@@ -54,13 +54,20 @@ noJob =
       notices = 0;
     }
 
-unfoldable pub openedBy : Judged Settings → Stepped
-openedBy (accepted s) = record { answer = answer.Accepted; state = openState s }
-openedBy (refused r) = record { answer = answer.Refused r; state = noJob }
+-- an answer, the state after, and the notice target after
+pub record OpeningOutcome : Type 0 where
+  pub stepped : Stepped
+  pub notices : List ℕ
 
--- opening a job
-unfoldable pub opened : List ℕ → List ℕ → Stepped
-opened text tape = openedBy (judgeOpening text tape)
+-- an accepted opening writes from the target's start; a refused one leaves it as it was
+unfoldable pub openedBy : List ℕ → List ℕ → Judged Settings → OpeningOutcome
+openedBy text notices (accepted s) =
+    record { stepped = record { answer = answer.Accepted; state = openState text s }; notices = laid 0 (openingBytes text s) notices }
+openedBy text notices (refused r) = record { stepped = record { answer = answer.Refused r; state = noJob }; notices = notices }
+
+-- opening a job over a notice target
+unfoldable pub opened : List ℕ → List ℕ → List ℕ → OpeningOutcome
+opened text tape notices = openedBy text notices (judgeOpening text tape (length notices))
 
 -- ---- a root
 

@@ -17,14 +17,17 @@ use Rattle.commands.specs.Root.{heritageCommand, scopeCommand, nameCommand, mem
 use Rattle.definitions.specs.declared.options.Optional.{Optional}
 use Rattle.definitions.specs.declared.options.Optional.the-variants.{Absent, Present}
 use Rattle.definitions.specs.declared.options.PragmaRoot.the-variants as root
+use Rattle.definitions.specs.declared.options.PragmaRead.{PragmaRead}
+use Rattle.definitions.specs.declared.options.PragmaRead.the-variants.{Valid, Invalid}
 use Rattle.definitions.specs.declared.options.Settings.{Settings}
-use Rattle.definitions.specs.declared.options.Form.{Form}
+use Rattle.definitions.specs.declared.state.Answer.{Answer}
+use Rattle.definitions.specs.declared.state.Answer.the-variants as answer
 use Rattle.definitions.specs.Judging.{_then_, from, spanned, named, worse, Judged, accepted, refused, refuse, refuseAt, read}
 use Rattle.definitions.specs.Judging as judging
 use Rattle.definitions.specs.Options.{flagsOf, conform}
 use Rattle.definitions.specs.Comments.{orElse, keywordOf, counts, onKeyword, onWord, onSign, seek, applied, onValue, onSearch, commentFrom, withComment, withComments}
-use Rattle.definitions.specs.Pragmas.{onto, split, allParts, isIdentifierName, isOneOf, isReservedWord, allNames, metaForm, formOfParts, formOf, formIn}
-use Rattle.definitions.specs.Opening.{optionBy, optionsFrom, openingBy, readOpening, optionsOf, modeOf, formUnder, settingsOf, shifted, overAsciiIn, ifClassic, pragmasChecked, judgeOpening}
+use Rattle.definitions.specs.Pragmas.{onto, split, allParts, isIdentifierName, isOneOf, isReservedWord, tailFrom, metaBehind, partsRead, pragmaOf, behindPlace, pragmaIn, formBy}
+use Rattle.definitions.specs.Opening.{optionBy, optionsFrom, openingBy, readOpening, optionsOf, modeOf, pragmaUnder, settingsOf, pragmaNotice, openingNotices, shifted, overAsciiIn, ifClassic, pragmasChecked, noticesFitted, judgeOpening}
 use Rattle.definitions.specs.Reading.{ampersand, lettered, opened, membersBy, nameBy, propertiesBy, attributesBy, valueBy, childrenBy, membersAt, nameAt, propertiesAt, elementAt, fragmentAt, attributesAt, valueAt, childrenAt, scopesBy, scopesAt, rootBy, whole, readRoot}
 use Rattle.definitions.specs.JsxText.{charsFrom, linesOf, trimFront, beforeTrimmed, trimBack, laterLines, endOf, spansOf, keptLines, jsxText}
 use Rattle.definitions.specs.Calls.{Command, bare, byte, over, span, binding, source, lookup, readBy, readFirst, readFrom, readCalls, bareCode, byteCode, expressionCode, spanCode, bytesOf, callBytes, noticeBytesOf, noticeBytes}
@@ -32,7 +35,7 @@ use Rattle.definitions.specs.Store.{sameImport, numberIn, bound, boundBy
 use Rattle.definitions.specs.Lowering.{joined, members, lowerName, imported, hasValue, isProto, hasProto, carried, isFound, attributeName, keyNotice, keyAfterSpread, someLine, survivors, hasSpread, childrenProperty, lowerText, sourceOutput, selfOutput, staticChildren, noKey, isClassic, automaticName, automaticCall, objectOf, classicCall, isLast, loneSpreadOr, lowerNode, lowerAttributes, lowerKey, lowerValue, lowerChildren, insideConstructor, lowerRoot, commandsOf, noticesOf}
 use Rattle.definitions.specs.Records.{without, isAmong, withGroup, groupedBy, groupsFrom, entryIn, entriesIn, groupTape, placeIn, fileNameEntry, fileNameTape, recordTape}
 use Rattle.definitions.specs.States.{inOrder, borneOut, rootNumber, formBorneOut, numberedFrom, unrepeated, allBindable, sound}
-use Rattle.definitions.specs.Entries.{loweredAfter, fitted, judgeRoot, recordsFrom, moved, judgeWriting, judgeRecords}
+use Rattle.definitions.specs.Entries.{laid, OpeningOutcome, openedBy, opened as openedOver, loweredAfter, fitted, judgeRoot, recordsFrom, moved, judgeWriting, judgeRecords}
 use Rattle.definitions.specs.Program.{Printed, printed, refusedWith, printRecords, printRoot, printOpening, jsxtape}
 
 -- ---- how rows are written
@@ -53,18 +56,23 @@ hex s = hexOf (ascii s)
 abbrev pub at : ℕ → ℕ → Span
 at s n = record { start = s; len = n }
 
--- what is asked: the string that a JSX text becomes, both pragma pairs that a comment sets with jsx_plugin on, the form of a pragma, what a job prints
+-- what is asked: the string that a JSX text becomes, both pragma pairs that a comment sets with jsx_plugin on, how a pragma is read, what an opening comes to over a
+-- notice target, what a job prints
 pub data Question : Type 0 where
   stringIn : List ℕ → Question
   pairsIn : List ℕ → Question
-  formIs : List ℕ → Question
+  pragmaIs : List ℕ → Question
+  opens : List ℕ → List ℕ → List ℕ → Question
   prints : List ℕ → List ℕ → List ℕ → Question
 
--- a string as it is written and what it means; the JSX pair and the TypeScript pair, in each the pragma and the fragment pragma
+-- a string as it is written and what it means; the JSX pair and the TypeScript pair, in each the pragma and the fragment pragma; the notice fill and the target behind
+-- an opening, or its refusal and the target
 pub data Reply : Type 0 where
   string : List ℕ → List ℕ → Reply
   pairs : Optional → Optional → Optional → Optional → Reply
-  form : Form → Reply
+  reads : PragmaRead → Reply
+  noticed : ℕ → List ℕ → Reply
+  refusedOver : ℕ → ℕ → List ℕ → Reply
   output : Printed → Reply
   turnedAway : Reply
 
@@ -75,6 +83,10 @@ commented c = 0x61 ∷ 0x01 ∷ 0x00 ∷ 0x60 ∷ 0 ∷ 0 ∷ length c ∷ 0 ∷
 unfoldable pub pairsOf : Judged Settings → Reply
 pairsOf (accepted s) = pairs (s .options .pragma) (s .options .«pragma_frag») (s .options .«ts_pragma») (s .options .«ts_pragma_frag»)
 pairsOf (refused r) = turnedAway
+
+unfoldable pub openingReply : Answer → ℕ → List ℕ → Reply
+openingReply answer.Accepted fill target = noticed fill target
+openingReply (answer.Refused r) fill target = refusedOver (numberOf r) (figureOf r) target
 
 -- the bytes of a text child that is all of the text
 abbrev pub stringBytes : List ℕ → List ℕ
@@ -95,8 +107,10 @@ meaning text (c ∷ cs) = meaningOf text c ++ meaning text cs
 
 unfoldable pub replyTo : Question → Reply
 replyTo (stringIn text) = string (stringBytes text) (meaning text (readCalls (stringBytes text)))
-replyTo (pairsIn c) = pairsOf (judgeOpening c (commented c))
-replyTo (formIs l) = form (formOf l)
+replyTo (pairsIn c) = pairsOf (judgeOpening c (commented c) 0)
+replyTo (pragmaIs l) = reads (pragmaOf l)
+replyTo (opens job text target) =
+    openingReply (openedOver text job target .stepped .answer) (openedOver text job target .stepped .state .notices) (openedOver text job target .notices)
 replyTo (prints job text tape) = output (jsxtape job text tape)
 
 pub record Row : Type 0 where
@@ -125,10 +139,10 @@ table =
     -- "`@jsx `, LF, `@jsxFrag f`: neither set"
     ∷ (pairsIn (ascii "@jsx \n@jsxFrag f") gives pairs Absent Absent Absent Absent)
     -- "`h.class` valid; `import` and `a..b` invalid; `this` valid"
-    ∷ (formIs (ascii "h.class") gives form (record { root = root.Identifier; tail = 1 }))
-    ∷ (formIs (ascii "import") gives form (record { root = root.Default; tail = 0 }))
-    ∷ (formIs (ascii "a..b") gives form (record { root = root.Default; tail = 0 }))
-    ∷ (formIs (ascii "this") gives form (record { root = root.This; tail = 0 }))
+    ∷ (pragmaIs (ascii "h.class") gives reads (Valid (record { root = root.Identifier; tail = 1 })))
+    ∷ (pragmaIs (ascii "import") gives reads (Invalid 0 6))
+    ∷ (pragmaIs (ascii "a..b") gives reads (Invalid 2 0))
+    ∷ (pragmaIs (ascii "this") gives reads (Valid (record { root = root.This; tail = 0 })))
     -- "Automatic, not development, sole spread child: array, callee jsx." Wrong port: jsxs for a sole spread
     ∷ (prints (hex "61 81 00") (ascii "a") (hex "01 00 02 03 10 00 00 00 00 00 00 00 00 20 00 00 01 00 1e 51 05 00 1f")
     gives output (printed
@@ -245,6 +259,36 @@ readings =
     gives output (refusedWith 13 13))
     ∷ (prints (hex "61 09 00 62 00 00 00 00 63 01 00 01 00 60 00 00 03 00") (hex "c3 a9") (hex "")
     gives output (refusedWith 13 8))
+    -- the first part of a pragma that fails. For `import` without `meta` next it is the root
+    ∷ (pragmaIs (ascii "h..x") gives reads (Invalid 2 0))
+    ∷ (pragmaIs (ascii "import.x") gives reads (Invalid 0 6))
+    ∷ (pragmaIs (ascii "import.") gives reads (Invalid 0 6))
+    ∷ (pragmaIs (ascii "import.meta") gives reads (Valid (record { root = root.ImportMeta; tail = 0 })))
+    ∷ (pragmaIs (ascii "import.meta.") gives reads (Invalid 12 0))
+    ∷ (pragmaIs (ascii "import.meta.h.1x") gives reads (Invalid 14 2))
+    ∷ (pragmaIs (ascii ".") gives reads (Invalid 0 0))
+    ∷ (pragmaIs (ascii "class.h") gives reads (Invalid 0 5))
+    ∷ (pragmaIs (ascii "h.1x.2y") gives reads (Invalid 2 2))
+    ∷ (pragmaIs [] gives reads (Invalid 0 0))
+    -- C2 comes before the root's notices
+    ∷ (prints (hex "61 08 00 62 00 00 04 00") (ascii "h..xkey") (hex "01 00 02 03 10 00 00 00 00 00 00 00 00 22 30 04 00 03 00 40 1e 1f")
+    gives output (printed (hex "80 00 81 83 04 00 03 00 90 82 9e 93 9f 98 00 a0 00") (hex "c2 02 00 00 00 c0 04 00 03 00") []))
+    -- pragma first, then fragment; in a job that is automatic none; exactly full, and one byte short
+    ∷ (opens (hex "61 08 00 62 00 00 02 00 63 02 00 05 00") (ascii "1xclass") (hex "ff ff ff ff ff ff ff ff ff ff ff")
+    gives noticed 10 (hex "c2 00 00 02 00 c2 02 00 05 00 ff"))
+    ∷ (opens (hex "61 00 00 62 00 00 02 00 63 02 00 05 00") (ascii "1xclass") (hex "ff") gives noticed 0 (hex "ff"))
+    ∷ (opens (hex "61 80 00 62 00 00 02 00 63 02 00 05 00") (ascii "1xclass") [] gives noticed 0 [])
+    ∷ (opens (hex "61 08 00 62 00 00 02 00") (ascii "1x") (hex "ff ff ff ff ff") gives noticed 5 (hex "c2 00 00 02 00"))
+    ∷ (opens (hex "61 08 00 62 00 00 02 00") (ascii "1x") (hex "ff ff ff ff") gives refusedOver 11 5 (hex "ff ff ff ff"))
+    -- the pair in force after comments: a 62 that a comment overrides gives nothing, a comment's own pragma is told, and the TypeScript pair never; a comment can make
+    -- the job classic. An empty option is told with an empty S at its start
+    ∷ (opens (hex "61 09 00 62 00 00 02 00 60 02 00 06 00") (ascii "1x@jsx h") [] gives noticed 0 [])
+    ∷ (opens (hex "61 09 00 60 00 00 08 00") (ascii "@jsx h.-") (hex "00 00 00 00 00") gives noticed 5 (hex "c2 07 00 01 00"))
+    ∷ (opens (hex "61 08 00 60 00 00 08 00") (ascii "@jsx h.-") [] gives noticed 0 [])
+    ∷ (opens (hex "61 01 00 62 00 00 00 00 60 00 00 13 00") (ascii "@jsxRuntime classic") (hex "00 00 00 00 00") gives noticed 5 (hex "c2 00 00 00 00"))
+    ∷ (opens (hex "61 09 00 62 15 00 01 00 60 00 00 15 00") (ascii "@jsxRuntime automatic1") [] gives noticed 0 [])
+    -- 5 before 11
+    ∷ (opens (hex "61 08 00 62 00 00 01 00 63 01 00 02 00") (hex "31 c3 a9") [] gives refusedOver 5 1 [])
     ∷ []
 
 -- ---- the claims
@@ -253,15 +297,15 @@ abbrev pub Answered : List Row → Type 0
 Answered rows = map (λ r. replyTo (r .asked)) rows ≡ map (λ r. r .expected) rows
 
 computed : Answered table × Answered readings
-unfolding replyTo pairsOf meaningOf meaning digit hexOf
+unfolding replyTo pairsOf openingReply meaningOf meaning digit hexOf
     same findFrom within width after illFrom firstIll charOf isWhiteSpace isLineTerminator partOf cutsAt boundsOf
     faultNumber numberOf figureOf flagsCommand optionCommand
     heritageCommand scopeCommand nameCommand memberCommand attributeCommand propertyCommand valueCommand childCommand
     _then_ judging.map from spanned named worse refuse refuseAt read
     flagsOf conform
     orElse keywordOf counts onKeyword onWord onSign seek applied onValue onSearch commentFrom withComment withComments
-    onto split allParts isIdentifierName isOneOf isReservedWord allNames metaForm formOfParts formOf formIn
-    optionBy optionsFrom openingBy readOpening optionsOf modeOf formUnder settingsOf shifted overAsciiIn ifClassic pragmasChecked judgeOpening
+    onto split allParts isIdentifierName isOneOf isReservedWord tailFrom metaBehind partsRead pragmaOf behindPlace pragmaIn formBy
+    optionBy optionsFrom openingBy readOpening optionsOf modeOf pragmaUnder settingsOf pragmaNotice openingNotices shifted overAsciiIn ifClassic pragmasChecked noticesFitted judgeOpening
     ampersand lettered opened membersBy nameBy propertiesBy attributesBy valueBy childrenBy membersAt nameAt propertiesAt elementAt fragmentAt attributesAt valueAt childrenAt scopesBy scopesAt rootBy whole readRoot
     charsFrom linesOf trimFront beforeTrimmed trimBack laterLines endOf spansOf keptLines jsxText
     bareCode byteCode expressionCode spanCode bytesOf callBytes noticeBytesOf noticeBytes lookup readBy readFirst readFrom readCalls
@@ -269,7 +313,7 @@ unfolding replyTo pairsOf meaningOf meaning digit hexOf
     joined members lowerName imported hasValue isProto hasProto carried isFound attributeName keyNotice keyAfterSpread someLine survivors hasSpread childrenProperty lowerText sourceOutput selfOutput staticChildren noKey isClassic automaticName automaticCall objectOf classicCall isLast loneSpreadOr lowerNode lowerAttributes lowerKey lowerValue lowerChildren insideConstructor lowerRoot commandsOf noticesOf
     without isAmong withGroup groupedBy groupsFrom entryIn entriesIn groupTape placeIn fileNameEntry fileNameTape recordTape
     inOrder borneOut rootNumber formBorneOut numberedFrom unrepeated allBindable sound
-    loweredAfter fitted judgeRoot recordsFrom moved judgeWriting judgeRecords
+    laid openedBy openedOver loweredAfter fitted judgeRoot recordsFrom moved judgeWriting judgeRecords
     printRecords printRoot printOpening jsxtape
 computed = (refl, refl)
 

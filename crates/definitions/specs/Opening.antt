@@ -1,8 +1,9 @@
--- docs/TAPES.md, "Opening tape" and "Settings": the opening tape, the settings that it gives, and which openings are refused.
+-- docs/TAPES.md, "Opening tape" and "Settings": the opening tape, the settings and the notices that it gives, and which openings are refused.
 use Prim.Native.Nat.{ℕ, zero, suc, _+_}
 use mathlib.Core.Bool.{Bool, true, false, cond, _&&_, _||_}
 use mathlib.Core.List.{List, [], _∷_, _++_}
 use lib.ListN.{length, drop}
+use lib.Dec.{ltb}
 use Rattle.text.specs.declared.bytes.Found.{Found}
 use Rattle.text.specs.declared.bytes.Found.the-variants as found
 use Rattle.text.specs.declared.spans.Span.{Span}
@@ -22,11 +23,14 @@ use Rattle.definitions.specs.declared.options.Options.{Options}
 use Rattle.definitions.specs.declared.options.Mode.{Mode}
 use Rattle.definitions.specs.declared.options.Mode.the-variants.{Module, Script, Classic}
 use Rattle.definitions.specs.declared.options.Form.{Form}
+use Rattle.definitions.specs.declared.options.PragmaRead.{PragmaRead}
+use Rattle.definitions.specs.declared.options.PragmaRead.the-variants as pragma
 use Rattle.definitions.specs.declared.options.Settings.{Settings}
-use Rattle.definitions.specs.Judging.{Parsed, done, stop, _then_, map, from, wrong, cut, spanned, Judged, accepted, refused, tooLong, refuseAt, read, judgeText}
+use Rattle.definitions.specs.Judging.{Parsed, done, stop, _then_, map, from, wrong, cut, spanned, Judged, accepted, refused, tooLong, refuse, refuseAt, read, judgeText}
 use Rattle.definitions.specs.Options.{flagsOf, conform}
 use Rattle.definitions.specs.Comments.{withComments}
-use Rattle.definitions.specs.Pragmas.{defaultForm, formIn}
+use Rattle.definitions.specs.Pragmas.{pragmaIn, formBy}
+use Rattle.definitions.specs.Calls.{Notice, invalidPragma, noticeBytes}
 
 -- ---- the tape
 
@@ -112,21 +116,45 @@ unfoldable pub modeOf : Flags → Mode
 modeOf f = cond (f .classic) Classic (cond (f .«module») Module Script)
 
 -- only classic bindings have pragmas
-unfoldable pub formUnder : Mode → List ℕ → Optional → Form
-formUnder Classic text p = formIn text p
-formUnder Module text p = defaultForm
-formUnder Script text p = defaultForm
+unfoldable pub pragmaUnder : Mode → List ℕ → Optional → PragmaRead
+pragmaUnder Classic text p = pragmaIn text p
+pragmaUnder Module text p = pragma.Absent
+pragmaUnder Script text p = pragma.Absent
 
--- `JsxImpl::new`. "A call is pure if the option is, or if importSource and pragma are both absent."
-unfoldable pub settingsOf : List ℕ → Options → Settings
-settingsOf text o =
+abbrev pub formUnder : Mode → List ℕ → Optional → Form
+formUnder m text p = formBy (pragmaUnder m text p)
+
+-- `JsxImpl::new`, with both pragmas as they were read. "A call is pure if the option is, or if importSource and pragma are both absent."
+abbrev pub settingsWith : Options → PragmaRead → PragmaRead → Settings
+settingsWith o p f =
     record {
       options = o;
       pure = o .flags .pure || (isAbsent (o .«import_source») && isAbsent (o .pragma));
       mode = modeOf (o .flags);
-      pragma = formUnder (modeOf (o .flags)) text (o .pragma);
-      «pragma_frag» = formUnder (modeOf (o .flags)) text (o .«pragma_frag»);
+      pragma = formBy p;
+      «pragma_frag» = formBy f;
     }
+
+unfoldable pub settingsOf : List ℕ → Options → Settings
+settingsOf text o =
+    settingsWith o (pragmaUnder (modeOf (o .flags)) text (o .pragma)) (pragmaUnder (modeOf (o .flags)) text (o .«pragma_frag»))
+
+-- ---- notices
+
+-- "opening a job must pass this on as notice C2 S"
+unfoldable pub pragmaNotice : PragmaRead → List Notice
+pragmaNotice pragma.Absent = []
+pragmaNotice (pragma.Valid f) = []
+pragmaNotice (pragma.Invalid i n) = invalidPragma (record { start = i; len = n }) ∷ []
+
+-- "Only a classic job gives C2, pragma first, then fragment."
+unfoldable pub openingNotices : List ℕ → Settings → List Notice
+openingNotices text s =
+    pragmaNotice (pragmaUnder (s .mode) text (s .options .pragma)) ++ pragmaNotice (pragmaUnder (s .mode) text (s .options .«pragma_frag»))
+
+-- what an accepted opening writes
+abbrev pub openingBytes : List ℕ → Settings → List ℕ
+openingBytes text s = noticeBytes (openingNotices text s)
 
 -- ---- the sources of imports
 
@@ -161,12 +189,23 @@ ifClassic Classic p = p
 ifClassic Module p = found.Nothing
 ifClassic Script p = found.Nothing
 
-unfoldable pub pragmasChecked : List ℕ → Settings → Judged Settings
-pragmasChecked text s =
+-- before what is judged behind it
+unfoldable pub pragmasChecked : List ℕ → Settings → Judged Settings → Judged Settings
+pragmasChecked text s rest =
     refuseAt (ifClassic (s .mode) (overAsciiIn text (s .options .pragma))) refusal.PragmaByte
-    (refuseAt (ifClassic (s .mode) (overAsciiIn text (s .options .«pragma_frag»))) refusal.PragmaByte (accepted s))
+    (refuseAt (ifClassic (s .mode) (overAsciiIn text (s .options .«pragma_frag»))) refusal.PragmaByte rest)
 
--- "Opening: 1, 2, then 3 and 4 in tape order, 3 first within one command, then 5 (pragma before fragment)", with 13 "directly after 4"; nothing there is a name.
-unfoldable pub judgeOpening : List ℕ → List ℕ → Judged Settings
-judgeOpening text tape =
-    judgeText (tooLong text || tooLong tape) text (read (readOpening text tape) (λ o. pragmasChecked text (settingsOf text (optionsOf text o))))
+-- "Opening now writes notices, so it takes a notice target, and its refusal order ends with 11."
+unfoldable pub noticesFitted : List ℕ → ℕ → Settings → Judged Settings
+noticesFitted text room s =
+    refuse (ltb room (length (openingBytes text s))) (refusal.NoticeSpace (length (openingBytes text s))) (accepted s)
+
+-- behind the tape
+abbrev pub judgeOptions : List ℕ → ℕ → Options → Judged Settings
+judgeOptions text room o = pragmasChecked text (settingsOf text o) (noticesFitted text room (settingsOf text o))
+
+-- "Opening: 1, 2, then 3 and 4 in tape order, 3 first within one command, then 5 (pragma before fragment)", with 13 "directly after 4", then 11; nothing there is
+-- a name.
+unfoldable pub judgeOpening : List ℕ → List ℕ → ℕ → Judged Settings
+judgeOpening text tape room =
+    judgeText (tooLong text || tooLong tape) text (read (readOpening text tape) (λ o. judgeOptions text room (optionsOf text o)))

@@ -1,5 +1,5 @@
--- docs/TAPES.md, "Settings": what a pragma is (`parse_impl` and `parse_no_ctx` of jsx_impl.rs).
-use Prim.Native.Nat.{ℕ, suc}
+-- docs/TAPES.md, "Settings": what a pragma is (`parse_impl` and `parse_no_ctx` of jsx_impl.rs), and what of it fails.
+use Prim.Native.Nat.{ℕ, _+_}
 use mathlib.Core.Bool.{Bool, true, false, cond, not, _&&_, _||_}
 use mathlib.Core.List.{List, [], _∷_}
 use lib.ListN.{length}
@@ -12,6 +12,8 @@ use Rattle.definitions.specs.declared.options.Optional.the-variants.{Abs
 use Rattle.definitions.specs.declared.options.PragmaRoot.{PragmaRoot}
 use Rattle.definitions.specs.declared.options.PragmaRoot.the-variants.{Default, This, ImportMeta, Identifier}
 use Rattle.definitions.specs.declared.options.Form.{Form}
+use Rattle.definitions.specs.declared.options.PragmaRead.{PragmaRead}
+use Rattle.definitions.specs.declared.options.PragmaRead.the-variants as read
 
 -- a byte more in front of the first part
 unfoldable pub onto : {A : Type 0} → A → List (List A) → List (List A)
@@ -52,37 +54,52 @@ isReservedWord w =
     ∷ ascii "null" ∷ ascii "return" ∷ ascii "super" ∷ ascii "switch" ∷ ascii "this" ∷ ascii "throw" ∷ ascii "true" ∷ ascii "try"
     ∷ ascii "typeof" ∷ ascii "var" ∷ ascii "void" ∷ ascii "while" ∷ ascii "with" ∷ ascii "yield" ∷ [])
 
--- "every tail part is an identifier name, reserved or not"
-unfoldable pub allNames : List (List ℕ) → Bool
-allNames [] = true
-allNames (w ∷ ws) = isIdentifierName w && allNames ws
-
--- "Invalid or empty means React.createElement or React.Fragment, silently"
+-- "Invalid or empty means React.createElement or React.Fragment"
 abbrev pub defaultForm : Form
 defaultForm = record { root = Default; tail = 0 }
 
--- a root with the parts that follow it
-abbrev pub formWith : PragmaRoot → List (List ℕ) → Form
-formWith r ws = cond (allNames ws) (record { root = r; tail = length ws }) defaultForm
+-- ---- reading a pragma: "tell absent, valid and invalid apart, with the text offset of the first part that fails"
 
--- "root `import` needs `meta` next"
-unfoldable pub metaForm : List (List ℕ) → Form
-metaForm [] = defaultForm
-metaForm (w ∷ ws) = cond (same w (ascii "meta")) (formWith ImportMeta ws) defaultForm
+-- the part w, which begins at place i, fails
+abbrev pub failing : ℕ → List ℕ → PragmaRead
+failing i w = read.Invalid i (length w)
 
--- "Root `this` needs no tail; root `import` needs `meta` next; any other root is an identifier name and not reserved"
-unfoldable pub formOfParts : List (List ℕ) → Form
-formOfParts [] = defaultForm
-formOfParts (w ∷ ws) =
-    cond (same w (ascii "this")) (formWith This ws)
-    (cond (same w (ascii "import")) (metaForm ws)
-    (cond (isIdentifierName w && not (isReservedWord w)) (formWith Identifier ws) defaultForm))
+-- "every tail part is an identifier name, reserved or not": the parts that follow n others behind the root r, the first of them beginning at place i
+unfoldable pub tailFrom : PragmaRoot → ℕ → ℕ → List (List ℕ) → PragmaRead
+tailFrom r n i [] = read.Valid (record { root = r; tail = n })
+tailFrom r n i (w ∷ ws) = cond (isIdentifierName w) (tailFrom r (n + 1) (i + length w + 1) ws) (failing i w)
 
--- the form of a pragma; the empty one has one part, which is no name
-unfoldable pub formOf : List ℕ → Form
-formOf l = formOfParts (split l)
+-- "root `import` needs `meta` next"; "For `import` without `meta` next that part is the root.", which has k bytes
+unfoldable pub metaBehind : ℕ → List (List ℕ) → PragmaRead
+metaBehind k [] = read.Invalid 0 k
+metaBehind k (w ∷ ws) = cond (same w (ascii "meta")) (tailFrom ImportMeta 0 (k + 1 + length w + 1) ws) (read.Invalid 0 k)
 
--- `parse_no_ctx`: the form of a pragma that may be absent
-unfoldable pub formIn : List ℕ → Optional → Form
-formIn text Absent = defaultForm
-formIn text (Present s) = formOf (partOf text s)
+-- "Root `this` needs no tail; root `import` needs `meta` next; any other root is an identifier name and not reserved". A pragma has a part at the least
+unfoldable pub partsRead : List (List ℕ) → PragmaRead
+partsRead [] = failing 0 []
+partsRead (w ∷ ws) =
+    cond (same w (ascii "this")) (tailFrom This 0 (length w + 1) ws)
+    (cond (same w (ascii "import")) (metaBehind (length w) ws)
+    (cond (isIdentifierName w && not (isReservedWord w)) (tailFrom Identifier 0 (length w + 1) ws) (failing 0 w)))
+
+-- a pragma, its places counted from its front. The empty one has one part, which is no name: it is "invalid, with an empty S at its start"
+unfoldable pub pragmaOf : List ℕ → PragmaRead
+pragmaOf l = partsRead (split l)
+
+-- the same where the pragma begins at place k
+unfoldable pub behindPlace : ℕ → PragmaRead → PragmaRead
+behindPlace k read.Absent = read.Absent
+behindPlace k (read.Valid f) = read.Valid f
+behindPlace k (read.Invalid i n) = read.Invalid (k + i) n
+
+-- a pragma that may be absent, its places those of the text
+unfoldable pub pragmaIn : List ℕ → Optional → PragmaRead
+pragmaIn text Absent = read.Absent
+pragmaIn text (Present s) = behindPlace (s .start) (pragmaOf (partOf text s))
+
+-- ---- the form that the settings take: "The settings still fall back as `parse_no_ctx` does"
+
+unfoldable pub formBy : PragmaRead → Form
+formBy read.Absent = defaultForm
+formBy (read.Valid f) = f
+formBy (read.Invalid i n) = defaultForm

@@ -10,7 +10,8 @@ use Rattle.definitions.specs.declared.state.Answer.the-variants as answe
 use Rattle.definitions.specs.Judging.{Parsed, done, stop}
 use Rattle.definitions.specs.Tree.{Root}
 use Rattle.definitions.specs.Reading.{readRoot}
-use Rattle.definitions.specs.Entries.{openState, loweredAfter, Outcome, rootOutcome}
+use Rattle.definitions.specs.Opening.{openingBytes}
+use Rattle.definitions.specs.Entries.{laid, openState, loweredAfter, Outcome, rootOutcome}
 
 -- the state and what the two targets hold
 pub record World : Type 0 where
@@ -18,9 +19,9 @@ pub record World : Type 0 where
   pub calls : List ℕ
   pub notices : List ℕ
 
--- after an accepted opening, over targets that hold anything
-abbrev pub opening : Settings → List ℕ → List ℕ → World
-opening s calls notices = record { state = openState s; calls = calls; notices = notices }
+-- after an accepted opening, over targets that held anything: it wrote its notices
+abbrev pub opening : List ℕ → Settings → List ℕ → List ℕ → World
+opening text s calls notices = record { state = openState text s; calls = calls; notices = laid 0 (openingBytes text s) notices }
 
 abbrev pub outcomeIn : List ℕ → World → List ℕ → Outcome
 outcomeIn text w tape = rootOutcome text (w .state) tape (w .calls) (w .notices)

@@ -50,6 +50,13 @@ pub struct Form {
     pub tail: usize,
 }
 
+// What reading a pragma gives: none is there, it is valid, with its form, or it is not, with the first part that fails: where that begins, and its length.
+pub enum PragmaRead {
+    Absent,
+    Valid(Form),
+    Invalid(usize, usize),
+}
+
 // The options in force and what follows from them: whether calls are pure, the bindings mode and the forms of both pragmas.
 pub struct Settings {
     pub options: Options,

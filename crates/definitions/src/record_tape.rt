@@ -13,3 +13,5 @@ pub const FILE_NAME: u8 = 0xb3;
 pub const VALUELESS_KEY: u8 = 0xc0;
 
 pub const NAMESPACED_TAG: u8 = 0xc1;
+
+pub const INVALID_PRAGMA: u8 = 0xc2;

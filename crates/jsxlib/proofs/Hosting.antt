@@ -4,33 +4,32 @@
 --     hosted, opening-hosted   and so are any number of calls behind an opening
 -- Assumes nothing.
 use mathlib.Core.Path.{_≡_, refl, sym, ap, subst, _∙_}
-use mathlib.Core.Bool.{Bool, cond}
 use mathlib.Core.List.{List, [], _∷_, _++_, append-nil}
 use Prim.Native.Nat.{ℕ, zero, suc, _+_, _≤_}
 use native.Mathlib.Omega.{arith}
-use lib.ListN.{length, take, drop, length-append, length-drop, drop-of-length-le}
+use lib.ListN.{length, take, drop, length-append, length-take, length-drop, drop-of-length-le, take-append-drop}
 use borrow.Author.Tests.{le-ltb, ne-eqb}
-use Rattle.tape.specs.declared.refusal.Refusal.the-variants as refusal
 use Rattle.definitions.specs.declared.options.Settings.{Settings}
 use Rattle.definitions.specs.declared.state.State.{State}
 use Rattle.definitions.specs.declared.state.Answer.{Answer}
 use Rattle.definitions.specs.declared.state.Answer.the-variants.{Accepted, Refused}
 use Rattle.definitions.specs.declared.state.Stepped.{Stepped}
 use Rattle.definitions.specs.Judging.{Judged, accepted, refused}
-use Rattle.definitions.specs.Opening.{judgeOpening}
+use Rattle.definitions.specs.Opening.{openingBytes, judgeOpening}
 use Rattle.definitions.specs.Entries.{laid, openState, openedBy, opened, Lowered, judgeRoot, moved, Outcome, outcomeBy, rootOutcome}
 use Rattle.definitions.specs.Series.{World, opening, outcomeIn, next, series}
 use Rattle.definitions.proofs.Soundness.{length-records}
 use Rattle.definitions.proofs.Verdicts.{root-taken, take-laid}
-use Rattle.definitions.proofs.RootSeries.{series-append}
-use Rattle.definitions.proofs.Demand3.{demand3}
+use Rattle.definitions.proofs.Openings.{Opens, opening-opens}
+use Rattle.definitions.proofs.RootSeries.{front-laid, series-append}
+use Rattle.definitions.proofs.Demand3.{kept}
 use Rattle.lowering.specs.RootLists.{rootsIn, Run, run}
 use Rattle.lowering.proofs.Listed.{run-leaves}
 use Rattle.packing.specs.Packed.{Found, packed, packedTarget, unpacked, unpackedAnswer}
 use Rattle.packing.proofs.Bytes.{packed-length}
 use Rattle.packing.proofs.Inverse.{unpacked-packed}
-use Rattle.jsxlib.specs.Entries.{stateFrom, stateAfter, answerIn, keptState, rootOver, runOver}
-use Rattle.jsxlib.specs.Hosts.{Step, root, roots, Held, afterRoot, afterRoots, afterStep, afterSteps, rootsOf, rootsOfAll, worldOf, Served, Hosted}
+use Rattle.jsxlib.specs.Entries.{stateFrom, stateAfter, withoutRoom, keptState, rootOver, runOver}
+use Rattle.jsxlib.specs.Hosts.{Step, root, roots, Held, afterRoot, afterRoots, afterStep, afterSteps, rootsOf, rootsOfAll, worldOf, Served, Begins, Hosted}
 
 -- a state that code can have
 abbrev Eight : State → Type 0
@@ -130,16 +129,31 @@ module _ (text : List ℕ) where
       ∙ ap (λ (h : Held). heldOf (series text v (rootsOfAll text h cs))) (sym p)
       ∙ ap heldOf (sym (series-append text w ts (rootsOfAll text (afterStep text (heldOf w) c) cs)))
 
-  pub hosted : (job : List ℕ) (s : Settings) → judgeOpening text job ≡ accepted s → Hosted text s (packed (openState s))
-  hosted job s e calls notices cs =
-      let w = opening s calls notices in
-      let ts = rootsOfAll text (heldOf w) cs in
+  -- a target that begins with bytes is as if they were laid there
+  laid-there : (bs target : List ℕ) → take (length bs) target ≡ bs → laid 0 bs target ≡ target
+  unfolding laid
+  laid-there bs target e =
+      let z : 0 + length bs ≡ length bs = omega arith in
+      rw z (ap (λ (l : List ℕ). l ++ drop (length bs) target) (sym e) ∙ take-append-drop (length bs) target)
+
+  begins-fits : (bs target : List ℕ) → take (length bs) target ≡ bs → length bs ≤ length target
+  begins-fits bs target e = omega (arith, ap length e, length-take (length bs) target)
+
+  pub hosted : {room : ℕ} (s : Settings) → Opens text s room → Hosted text s (packed (openState text s))
+  hosted s o calls notices cs b =
+      let w = opening text s calls notices in
+      let h : heldOf (opening text s calls notices) ≡ record { state = packed (openState text s); calls = calls; notices = notices } =
+      λ ι. record { state = packed (openState text s); calls = calls; notices = laid-there (openingBytes text s) notices b ι } in
+      subst (λ (x : Held). Served text s calls notices (rootsOfAll text x cs) (worldOf (afterSteps text x cs))) h
+      (let ts = rootsOfAll text (heldOf w) cs in
       let p = ap worldOf (steps-are w cs refl) in
       let q = unpacks (series text w ts .state) (series-eight w ts refl) in
       record {
         is-series = p ∙ λ ι. record { state = q ι; calls = series text w ts .calls; notices = series text w ts .notices };
-        kept = demand3 text job s e calls notices ts;
-      }
+        kept =
+            kept text s calls notices
+            (record { short = o .short; well-formed = o .well-formed; bore = o .bore; fits = begins-fits (openingBytes text s) notices b }) ts;
+      })
 
 -- the bytes that an accepted opening leaves
 pub opened-bytes : (s : State) (target : List ℕ) → Eight s → 102 ≤ length target → take 102 (packedTarget s target) ≡ packed s
@@ -149,16 +163,25 @@ opened-bytes s target e h =
     rw (le-ltb (length target) 102 h)
     (ap (λ (k : ℕ). take k (laid 0 (packed s) target)) n ∙ take-laid 0 (packed s) target (omega (arith, packed-length s e)))
 
+-- an opening whose state has no room leaves its bytes
+pub kept-short : (a : Answer) (s : State) (bytes : List ℕ) → stateAfter (withoutRoom a) s bytes ≡ bytes
+unfolding stateAfter withoutRoom
+kept-short Accepted s bytes = refl
+kept-short (Refused r) s bytes = refl
+
 -- so all that hosts run behind it is a series
-pub opening-hosted : (text job state : List ℕ) {after : List ℕ} {told : Stepped} {a : Answer}
-    → told ≡ opened text job → a ≡ answerIn (length state) (told .answer) → after ≡ stateAfter a (told .state) state
-    → (s : Settings) → judgeOpening text job ≡ accepted s → 102 ≤ length state → Hosted text s (take 102 after)
-unfolding opened openedBy answerIn stateAfter
-opening-hosted text job state {after} {told} o i e s h room =
-    let p : after ≡ packedTarget (openState s) state =
+pub opening-hosted : (text job state notices : List ℕ) {after noticed : List ℕ} {told : Stepped} {a : Answer}
+    → told ≡ opened text job notices .stepped → noticed ≡ opened text job notices .notices → a ≡ told .answer → after ≡ stateAfter a (told .state) state
+    → (s : Settings) → judgeOpening text job (length notices) ≡ accepted s → 102 ≤ length state → Begins text s noticed × Hosted text s (take 102 after)
+unfolding opened openedBy stateAfter
+opening-hosted text job state notices {after} {noticed} {told} o n i e s h room =
+    let opens = opening-opens text job (length notices) s h in
+    let p : after ≡ packedTarget (openState text s) state =
     e
     ∙ ap (λ (x : Answer). stateAfter x (told .state) state) i
-    ∙ ap (λ (x : Stepped). stateAfter (answerIn (length state) (x .answer)) (x .state) state) o
-    ∙ ap (λ (j : Judged Settings). stateAfter (answerIn (length state) (openedBy j .answer)) (openedBy j .state) state) h
-    ∙ ap (λ (b : Bool). stateAfter (cond b (Refused (refusal.Space 102)) Accepted) (openState s) state) (le-ltb (length state) 102 room) in
-    subst (Hosted text s) (sym (ap (take 102) p ∙ opened-bytes (openState s) state refl room)) (hosted text job s h)
+    ∙ ap (λ (x : Stepped). stateAfter (x .answer) (x .state) state) o
+    ∙ ap (λ (j : Judged Settings). stateAfter (openedBy text notices j .stepped .answer) (openedBy text notices j .stepped .state) state) h in
+    let q : noticed ≡ laid 0 (openingBytes text s) notices = n ∙ ap (λ (j : Judged Settings). openedBy text notices j .notices) h in (
+      ap (take (length (openingBytes text s))) q ∙ front-laid (openingBytes text s) notices (opens .fits),
+      subst (Hosted text s) (sym (ap (take 102) p ∙ opened-bytes (openState text s) state refl room)) (hosted text s opens),
+    )

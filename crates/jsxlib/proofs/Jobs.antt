@@ -35,26 +35,27 @@ told-figure : {a : Answer} {x : Refusal} {n : ℕ} → a ≡ Refused x → n ≡
 unfolding figureBy
 told-figure h e = sym (e ∙ ap (figureBy 0) h)
 
-module _ (text job roots calls notices records : List ℕ) (t : Stepped) (told : t ≡ opened text job) where
-  opens : jobOver text job roots calls notices records ≡ jobBy text (t .answer) (begun (t .state) calls notices) roots records
-  opens = ap (λ (o : Stepped). jobBy text (o .answer) (begun (o .state) calls notices) roots records) (sym told)
+module _ (text job roots calls notices records : List ℕ) (t : Stepped) (told : t ≡ opened text job notices .stepped) {noted : List ℕ}
+    (noticed : noted ≡ opened text job notices .notices) where
+  opens : jobOver text job roots calls notices records ≡ jobBy text (t .answer) (begun (t .state) calls noted) roots records
+  opens = λ ι. jobBy text (sym told ι .answer) (begun (sym told ι .state) calls (sym noticed ι)) roots records
 
   pub opening-refused : {x : Refusal} {n f : ℕ} → t .answer ≡ Refused x → n ≡ numberBy (t .answer) → f ≡ figureBy 0 (t .answer)
       → jobOver text job roots calls notices records
-      ≡ record { stage = 0; number = n; figure = f; taken = 0; world = begun (t .state) calls notices; records = records }
+      ≡ record { stage = 0; number = n; figure = f; taken = 0; world = begun (t .state) calls noted; records = records }
   unfolding jobBy
   opening-refused h n f =
-      opens ∙ ap (λ (a : Answer). jobBy text a (begun (t .state) calls notices) roots records) h
-      ∙ λ ι. record { stage = 0; number = told-number h n ι; figure = told-figure h f ι; taken = 0; world = begun (t .state) calls notices; records = records }
+      opens ∙ ap (λ (a : Answer). jobBy text a (begun (t .state) calls noted) roots records) h
+      ∙ λ ι. record { stage = 0; number = told-number h n ι; figure = told-figure h f ι; taken = 0; world = begun (t .state) calls noted; records = records }
 
   module _ (accepts : t .answer ≡ Accepted) {a : Answer} {k : ℕ} {w : World}
-      (answers : a ≡ run text (begun (t .state) calls notices) roots .answer)
-      (takes : k ≡ run text (begun (t .state) calls notices) roots .taken)
-      (leaves : w ≡ run text (begun (t .state) calls notices) roots .world) where
+      (answers : a ≡ run text (begun (t .state) calls noted) roots .answer)
+      (takes : k ≡ run text (begun (t .state) calls noted) roots .taken)
+      (leaves : w ≡ run text (begun (t .state) calls noted) roots .world) where
     runs : jobOver text job roots calls notices records ≡ jobRoots text a k w records
     unfolding jobBy
     runs =
-        opens ∙ ap (λ (b : Answer). jobBy text b (begun (t .state) calls notices) roots records) accepts
+        opens ∙ ap (λ (b : Answer). jobBy text b (begun (t .state) calls noted) roots records) accepts
         ∙ λ ι. jobRoots text (sym answers ι) (sym takes ι) (sym leaves ι) records
 
     pub root-refused : {x : Refusal} {n f : ℕ} → a ≡ Refused x → n ≡ numberBy a → f ≡ figureBy 0 a
@@ -81,19 +82,22 @@ roots-leave text Accepted k w records = (refl, refl)
 roots-leave text (Refused x) k w records = (refl, refl)
 
 module _ (text job roots calls notices records : List ℕ) where
-  job-served : (s : Settings) → judgeOpening text job ≡ accepted s
+  job-served : (s : Settings) → judgeOpening text job (length notices) ≡ accepted s
       → Served text s calls notices (take (jobOver text job roots calls notices records .taken) (rootsIn roots)) (jobOver text job roots calls notices records .world)
   unfolding opened openedBy jobBy
   job-served s h =
-      let w = opening s calls notices in
+      let w = opening text s calls notices in
       let r = run text w roots in
       let l = roots-leave text (r .answer) (r .taken) (r .world) records in
       let o : jobOver text job roots calls notices records ≡ jobRoots text (r .answer) (r .taken) (r .world) records =
-      ap (λ (j : Judged Settings). jobBy text (openedBy j .answer) (begun (openedBy j .state) calls notices) roots records) h in
+      ap
+      (λ (j : Judged Settings).
+      jobBy text (openedBy text notices j .stepped .answer) (begun (openedBy text notices j .stepped .state) calls (openedBy text notices j .notices)) roots records)
+      h in
       let k = ap (λ (j : JobRun). j .taken) o ∙ l .1 in
       record {
         is-series = ap (λ (j : JobRun). j .world) o ∙ l .0 ∙ run-leaves text w roots ∙ ap (λ (n : ℕ). series text w (take n (rootsIn roots))) (sym k);
-        kept = demand3 text job s h calls notices (take (jobOver text job roots calls notices records .taken) (rootsIn roots));
+        kept = demand3 text job s calls notices h (take (jobOver text job roots calls notices records .taken) (rootsIn roots));
       }
 
   pub job-is : {o : JobRun} → jobOver text job roots calls notices records ≡ o
@@ -106,7 +110,7 @@ module _ (text job roots calls notices records : List ℕ) where
       × ((o .world .calls ≡ jobOver text job roots calls notices records .world .calls)
       × ((o .world .notices ≡ jobOver text job roots calls notices records .world .notices)
       × ((o .records ≡ jobOver text job roots calls notices records .records)
-      × ((s : Settings) → judgeOpening text job ≡ accepted s
+      × ((s : Settings) → judgeOpening text job (length notices) ≡ accepted s
       → Served text s calls notices (take (jobOver text job roots calls notices records .taken) (rootsIn roots))
       (jobOver text job roots calls notices records .world))))))))))
   job-is e =

@@ -3,7 +3,7 @@
 use Prim.Native.Nat.{ℕ}
 use mathlib.Core.Bool.{cond}
 use mathlib.Core.List.{List}
-use lib.ListN.{length}
+use lib.ListN.{length, replicate}
 use lib.Dec.{eqb, ltb}
 use Rattle.tape.specs.declared.refusal.Refusal.{Refusal}
 use Rattle.tape.specs.declared.refusal.Refusal.the-variants as refusal
@@ -14,7 +14,7 @@ use Rattle.definitions.specs.declared.state.Answer.the-variants as answer
 use Rattle.definitions.specs.declared.state.Written.{Written}
 use Rattle.definitions.specs.declared.state.Written.the-variants as written
 use Rattle.definitions.specs.Judging.{Judged}
-use Rattle.definitions.specs.Entries.{Outcome, opened, rootOutcome, judgeRecords, recordsAnswer, recordsTarget}
+use Rattle.definitions.specs.Entries.{OpeningOutcome, Outcome, opened, rootOutcome, judgeRecords, recordsAnswer, recordsTarget}
 use Rattle.definitions.specs.Series.{World}
 use Rattle.lowering.specs.RootLists.{Run, run}
 use Rattle.packing.specs.Packed.{packedTarget, unpacked, unpackedAnswer}
@@ -40,13 +40,21 @@ stateAfter (answer.Refused r) s bytes = bytes
 
 -- ---- opening
 
--- last of all, 10: the state's target has no room for it
-unfoldable pub answerIn : ℕ → Answer → Answer
-answerIn room answer.Accepted = cond (ltb room 102) (answer.Refused (refusal.Space 102)) answer.Accepted
-answerIn room (answer.Refused r) = answer.Refused r
+-- 10: the state's target has no room for it
+unfoldable pub withoutRoom : Answer → Answer
+withoutRoom answer.Accepted = answer.Refused (refusal.Space 102)
+withoutRoom (answer.Refused r) = answer.Refused r
 
-abbrev pub openAnswer : List ℕ → List ℕ → ℕ → Answer
-openAnswer text job room = answerIn room (opened text job .answer)
+-- a notice target with room for the notices of any opening: two, of five bytes
+abbrev pub spare : List ℕ
+spare = replicate 10 0
+
+-- 10 comes before 11, so that where the state has no room the notices are not judged, and not written
+abbrev pub openOver : List ℕ → List ℕ → ℕ → List ℕ → OpeningOutcome
+openOver text job room notices =
+    cond (ltb room 102)
+    (record { stepped = record { answer = withoutRoom (opened text job spare .stepped .answer); state = opened text job spare .stepped .state }; notices = notices })
+    (opened text job notices)
 
 -- ---- a root
 
@@ -123,4 +131,5 @@ jobBy text (answer.Refused x) w roots records = stopped 0 x 0 w records
 -- opening, then the roots, then the records, each with its own refusals
 abbrev pub jobOver : List ℕ → List ℕ → List ℕ → List ℕ → List ℕ → List ℕ → JobRun
 jobOver text job roots calls notices records =
-    jobBy text (opened text job .answer) (record { state = opened text job .state; calls = calls; notices = notices }) roots records
+    jobBy text (opened text job notices .stepped .answer)
+    (record { state = opened text job notices .stepped .state; calls = calls; notices = opened text job notices .notices }) roots records

@@ -3,8 +3,9 @@
 use Prim.Native.Nat.{ℕ}
 use mathlib.Core.Path.{_≡_}
 use mathlib.Core.List.{List, [], _∷_, _++_}
-use lib.ListN.{take}
+use lib.ListN.{length, take}
 use Rattle.definitions.specs.declared.options.Settings.{Settings}
+use Rattle.definitions.specs.Opening.{openingBytes}
 use Rattle.definitions.specs.Series.{World, opening, series}
 use Rattle.definitions.specs.Claim.{Kept}
 use Rattle.definitions.specs.Entries.{Outcome}
@@ -52,13 +53,18 @@ worldOf h = record { state = stateFrom (h .state); calls = h .calls; notices = h
 
 -- a world is the series of these roots behind the opening, and demand 3 holds of it
 pub record Served (text : List ℕ) (s : Settings) (calls notices : List ℕ) (roots : List (List ℕ)) (w : World) : Type 0 where
-  pub is-series : w ≡ series text (opening s calls notices) roots
+  pub is-series : w ≡ series text (opening text s calls notices) roots
   pub kept : Kept text s calls notices roots
 
--- so it is from these bytes of a state on, over any targets and whatever a host calls, accepted and refused in any mix
+-- a notice target that begins with the opening's notices
+abbrev pub Begins : List ℕ → Settings → List ℕ → Type 0
+Begins text s notices = take (length (openingBytes text s)) notices ≡ openingBytes text s
+
+-- so it is from these bytes of a state on, over any targets of which that for notices begins with the opening's, and whatever a host calls, accepted and refused in any mix
 abbrev pub Hosted : List ℕ → Settings → List ℕ → Type 0
 Hosted text s state =
     (calls notices : List ℕ) (cs : List Step)
+    → Begins text s notices
     → Served text s calls notices
     (rootsOfAll text (record { state = state; calls = calls; notices = notices }) cs)
     (worldOf (afterSteps text (record { state = state; calls = calls; notices = notices }) cs))

@@ -8,12 +8,12 @@ ghost use lib.ListN.{length, take};
 ghost use Rattle.definitions.specs.declared.options.Settings.{Settings};
 ghost use Rattle.definitions.specs.Judging.{accepted};
 ghost use Rattle.definitions.specs.Opening.{judgeOpening};
-ghost use Rattle.definitions.specs.Entries.{opened, judgeRecords, recordsAnswer, recordsTarget};
+ghost use Rattle.definitions.specs.Entries.{judgeRecords, recordsAnswer, recordsTarget};
 ghost use Rattle.lowering.specs.RootLists.{rootsIn};
 ghost use Rattle.packing.specs.Packed.{unpacked, unpackedAnswer};
 ghost use Rattle.size_bound.specs.SizeBound.{callSizeBound, HoldsCalls};
-ghost use Rattle.jsxlib.specs.Entries.{stateFrom, numberBy, figureBy, stateAfter, answerIn, openAnswer, rootOver, runOver, keptState, recordsOver, recordsNumber, recordsFigure, settingsOver, sourceOver, jobOver};
-ghost use Rattle.jsxlib.specs.Hosts.{Served, Hosted};
+ghost use Rattle.jsxlib.specs.Entries.{stateFrom, numberBy, figureBy, stateAfter, withoutRoom, openOver, rootOver, runOver, keptState, recordsOver, recordsNumber, recordsFigure, settingsOver, sourceOver, jobOver};
+ghost use Rattle.jsxlib.specs.Hosts.{Served, Begins, Hosted};
 use definitions::state::Answer;
 use definitions::state::State;
 use definitions::state::Written;
@@ -41,16 +41,12 @@ fn figure_by(answer: Answer, size: usize) -> usize
     }
 }
 
-fn answer_in(answer: Answer, room: usize) -> Answer
-    ensures { λ r. ⌜ r ≡ answerIn room answer ⌝ }
+// The answer of an opening whose state has no room.
+fn without_room(answer: Answer) -> Answer
+    ensures { λ r. ⌜ r ≡ withoutRoom answer ⌝ }
 {
     match answer {
-        Answer::Accepted => {
-            if room < STATE_SIZE {
-                return Answer::Refused(Refusal::Space(STATE_SIZE));
-            }
-            Answer::Accepted
-        }
+        Answer::Accepted => Answer::Refused(Refusal::Space(STATE_SIZE)),
         Answer::Refused(refusal) => Answer::Refused(refusal),
     }
 }
@@ -103,19 +99,34 @@ fn state_from(bytes: &[u8]) -> State
     unpacked.state
 }
 
-// Opens a job over a text: the state's 102 bytes at the front of `state`. Where there is no room for them, 10 with 102. Whatever roots and lists of roots are
-// handed over behind it, demand 3 holds of what these bytes and the targets then are.
+// Opens a job over a text: the state's 102 bytes at the front of `state`, and what its pragmas tell at the front of `notices`, at most ten bytes. Where there is no
+// room for the state, 10 with 102. Whatever roots and lists of roots are handed over behind it, demand 3 holds of what these bytes and the targets then are.
 #[no_mangle]
-pub extern "C" fn jsx_open(text: &[u8], job: &[u8], state: &mut [u8], figure: &mut usize) -> u8
-    ensures { λ r. ⌜ r ≡ numberBy (openAnswer (now (text .entry)) (now (job .entry)) (length (now (state .entry)))) ⌝ }
-    ensures { λ _. ⌜ now (figure .exit) ≡ figureBy 102 (openAnswer (now (text .entry)) (now (job .entry)) (length (now (state .entry)))) ⌝ }
-    ensures { λ _. ⌜ now (state .exit) ≡ stateAfter (openAnswer (now (text .entry)) (now (job .entry)) (length (now (state .entry)))) (opened (now (text .entry)) (now (job .entry)) .state) (now (state .entry)) ⌝ }
-    ensures { λ _. ⌜ ((s : Settings) → judgeOpening (now (text .entry)) (now (job .entry)) ≡ accepted s → 102 ≤ length (now (state .entry)) → Hosted (now (text .entry)) s (take 102 (now (state .exit)))) ⌝ }
+pub extern "C" fn jsx_open(
+    text: &[u8],
+    job: &[u8],
+    state: &mut [u8],
+    notices: &mut [u8],
+    figure: &mut usize,
+) -> u8
+    ensures { λ r. ⌜ r ≡ numberBy (openOver (now (text .entry)) (now (job .entry)) (length (now (state .entry))) (now (notices .entry)) .stepped .answer) ⌝ }
+    ensures { λ _. ⌜ now (figure .exit) ≡ figureBy 102 (openOver (now (text .entry)) (now (job .entry)) (length (now (state .entry))) (now (notices .entry)) .stepped .answer) ⌝ }
+    ensures { λ _. ⌜ now (state .exit) ≡ stateAfter (openOver (now (text .entry)) (now (job .entry)) (length (now (state .entry))) (now (notices .entry)) .stepped .answer) (openOver (now (text .entry)) (now (job .entry)) (length (now (state .entry))) (now (notices .entry)) .stepped .state) (now (state .entry)) ⌝ }
+    ensures { λ _. ⌜ now (notices .exit) ≡ openOver (now (text .entry)) (now (job .entry)) (length (now (state .entry))) (now (notices .entry)) .notices ⌝ }
+    ensures { λ _. ⌜ ((s : Settings) → judgeOpening (now (text .entry)) (now (job .entry)) (length (now (notices .entry))) ≡ accepted s → 102 ≤ length (now (state .entry)) → Begins (now (text .entry)) s (now (notices .exit)) × Hosted (now (text .entry)) s (take 102 (now (state .exit)))) ⌝ }
 {
-    let stepped = open_job(text, job);
-    let told = stepped.answer;
+    if state.len() < STATE_SIZE {
+        // what is refused before that is told, and the caller's notices are left alone
+        let mut spare = [0u8; 10];
+        let tried = open_job(text, job, &mut spare);
+        let answered = tried.answer;
+        let told = without_room(answered);
+        *figure = figure_by(told, STATE_SIZE);
+        return number_by(told);
+    }
+    let stepped = open_job(text, job, notices);
+    let answer = stepped.answer;
     let opening = stepped.state;
-    let answer = answer_in(told, state.len());
     *figure = figure_by(answer, STATE_SIZE);
     settle(answer, opening, state)
 }
@@ -302,9 +313,9 @@ pub extern "C" fn jsx_job(
     ensures { λ _. ⌜ now (calls .exit) ≡ jobOver (now (text .entry)) (now (job .entry)) (now (roots .entry)) (now (calls .entry)) (now (notices .entry)) (now (records .entry)) .world .calls ⌝ }
     ensures { λ _. ⌜ now (notices .exit) ≡ jobOver (now (text .entry)) (now (job .entry)) (now (roots .entry)) (now (calls .entry)) (now (notices .entry)) (now (records .entry)) .world .notices ⌝ }
     ensures { λ _. ⌜ now (records .exit) ≡ jobOver (now (text .entry)) (now (job .entry)) (now (roots .entry)) (now (calls .entry)) (now (notices .entry)) (now (records .entry)) .records ⌝ }
-    ensures { λ _. ⌜ ((s : Settings) → judgeOpening (now (text .entry)) (now (job .entry)) ≡ accepted s → Served (now (text .entry)) s (now (calls .entry)) (now (notices .entry)) (take (jobOver (now (text .entry)) (now (job .entry)) (now (roots .entry)) (now (calls .entry)) (now (notices .entry)) (now (records .entry)) .taken) (rootsIn (now (roots .entry)))) (jobOver (now (text .entry)) (now (job .entry)) (now (roots .entry)) (now (calls .entry)) (now (notices .entry)) (now (records .entry)) .world)) ⌝ }
+    ensures { λ _. ⌜ ((s : Settings) → judgeOpening (now (text .entry)) (now (job .entry)) (length (now (notices .entry))) ≡ accepted s → Served (now (text .entry)) s (now (calls .entry)) (now (notices .entry)) (take (jobOver (now (text .entry)) (now (job .entry)) (now (roots .entry)) (now (calls .entry)) (now (notices .entry)) (now (records .entry)) .taken) (rootsIn (now (roots .entry)))) (jobOver (now (text .entry)) (now (job .entry)) (now (roots .entry)) (now (calls .entry)) (now (notices .entry)) (now (records .entry)) .world)) ⌝ }
 {
-    let opening = open_job(text, job);
+    let opening = open_job(text, job, notices);
     let opened = opening.answer;
     let from = opening.state;
     match opened {

@@ -1,7 +1,7 @@
 -- The first root of bytes that were read, and what of the targets is printed after a run.
 --     first-unread, first-cut, first-root     the first root, by the code's tests
 --     left-fits                               roots leave fills within the targets
---     job-fresh                               nothing is written when a job is opened
+--     job-fresh                               when a job is opened there are no calls, and its notices lie within their target
 --     records-within                          the records lie within their target
 -- Assumes nothing.
 use mathlib.Core.Path.{_≡_, refl, sym, ap, subst, _∙_}
@@ -20,6 +20,7 @@ use Rattle.definitions.specs.Opening.{judgeOpening}
 use Rattle.definitions.specs.Entries.{openedBy, opened, Lowered, judgeRoot, moved, outcomeBy, rootOutcome, judgeRecords, recordsAnswer}
 use Rattle.definitions.specs.Series.{World, outcomeIn, next, series}
 use Rattle.definitions.proofs.Verdicts.{length-laid, root-taken, records-taken}
+use Rattle.definitions.proofs.Openings.{opening-opens}
 use Rattle.tape.specs.Numbers.{u16At}
 use Rattle.lowering.specs.RootLists.{rootsFrom, rootsIn, rootsBy}
 use Rattle.lowering.proofs.Listed.{cut-length, cut-root, whole, one-more}
@@ -93,13 +94,16 @@ left-fits text w roots e f = subst Fits (sym e) (series-fits text w roots f)
 
 -- ---- opening
 
-pub job-fresh : (job text : List ℕ) (x : Stepped) → x ≡ opened text job → x .answer ≡ answer.Accepted → (x .state .calls ≡ 0) × (x .state .notices ≡ 0)
+pub job-fresh : (job text notices : List ℕ) (x : Stepped) → x ≡ opened text job notices .stepped
+    → (x .state .calls ≡ 0) × (x .state .notices ≤ length notices)
 unfolding opened openedBy
-job-fresh job text x e a = subst (λ (y : Stepped). (y .state .calls ≡ 0) × (y .state .notices ≡ 0)) (sym e) (go (judgeOpening text job))
+job-fresh job text notices x e =
+    subst (λ (y : Stepped). (y .state .calls ≡ 0) × (y .state .notices ≤ length notices)) (sym e) (go (judgeOpening text job (length notices)) refl)
   where
-    go : (j : Judged Settings) → (openedBy j .state .calls ≡ 0) × (openedBy j .state .notices ≡ 0)
-    go (accepted s) = (refl, refl)
-    go (refused r) = (refl, refl)
+    go : (j : Judged Settings) → judgeOpening text job (length notices) ≡ j
+        → (openedBy text notices j .stepped .state .calls ≡ 0) × (openedBy text notices j .stepped .state .notices ≤ length notices)
+    go (accepted s) q = (refl, opening-opens text job (length notices) s q .fits)
+    go (refused r) q = (refl, omega arith)
 
 -- ---- records
 

@@ -3,6 +3,8 @@
 mod series;
 
 ghost use mathlib.Core.Path.{_≡_};
+ghost use Prim.Native.Nat.{_≤_};
+ghost use lib.ListN.{length};
 ghost use Rattle.jsxseries.specs.Running.{world, Fits};
 use definitions::state::Answer;
 use definitions::state::State;
@@ -41,30 +43,31 @@ fn print_left(text: &[u8], state: State, calls: &[u8], notices: &[u8], line: &mu
     print_records(text, state, line);
 }
 
-// The state is that of a job that was just opened. A list that is missing has no roots: nothing can be read of it.
-fn run_roots(text: &[u8], state: State, line: &mut [u8])
-    requires { ⌜ (state .calls ≡ 0) × (state .notices ≡ 0) ⌝ }
+// State and notices are those of a job that was just opened. A list that is missing has no roots: nothing can be read of it.
+fn run_roots(text: &[u8], state: State, notices: &mut [u8], line: &mut [u8])
+    requires { ⌜ (state .calls ≡ 0) × (state .notices ≤ length (now notices)) ⌝ }
 {
     let mut calls = io::large_buffer();
-    let mut notices = io::large_buffer();
     let fd = os::open_read(b"roots.bin");
-    let run = lower_all(fd, text, state, &mut calls, &mut notices, line);
+    let run = lower_all(fd, text, state, &mut calls, notices, line);
     libc::close(fd);
     let after = run.state;
     if run.written {
-        print_left(text, after, &calls, &notices, line);
+        print_left(text, after, &calls, notices, line);
     }
 }
 
 fn run_job(job: &[u8], text: &[u8], line: &mut [u8]) {
-    let opened = open_job(text, job);
+    let mut space = io::large_buffer();
+    let notices: &mut [u8] = &mut space;
+    let opened = open_job(text, job, notices);
     let answer = opened.answer;
     let state = opened.state;
     match answer {
         Answer::Refused(refusal) => {
             print_refusal(refusal, line);
         }
-        Answer::Accepted => run_roots(text, state, line),
+        Answer::Accepted => run_roots(text, state, notices, line),
     }
 }
 

@@ -16,13 +16,15 @@ use Rattle.definitions.specs.declared.state.Stepped.{Stepped}
 use Rattle.definitions.specs.declared.state.Written.{Written}
 use Rattle.definitions.specs.declared.state.Written.the-variants as written
 use Rattle.definitions.specs.Judging.{Judged, accepted, refused}
-use Rattle.definitions.specs.Opening.{judgeOpening}
+use Rattle.definitions.specs.Opening.{openingBytes, judgeOpening}
 use Rattle.definitions.specs.Entries.{laid, openedBy, opened, openState, Lowered, judgeRoot, moved, outcomeBy, rootOutcome, judgeRecords, recordsAnswer, recordsTarget}
 use Rattle.definitions.specs.Program.{Printed, printed, printedRefusal, room, printRecords, printRoot, printOpening, jsxtape}
 use Rattle.definitions.proofs.Verdicts.{take-laid, root-taken, records-taken}
+use Rattle.definitions.proofs.Openings.{opening-opens}
+use Rattle.definitions.proofs.RootSeries.{front-laid}
 use Rattle.jsxtape.specs.declared.job.Ended.{Ended}
 use Rattle.jsxtape.specs.declared.job.Ended.the-variants as ended
-use Rattle.jsxtape.specs.Endings.{shown, most, Ends, Fresh, Rooms}
+use Rattle.jsxtape.specs.Endings.{shown, most, Ends, Rooms}
 
 -- ---- a refusal ends the job
 
@@ -44,7 +46,11 @@ records-all w (refused r) n e f = let z : _≡_ {A = ℕ} 0 1 = cc in absurd (om
 
 -- ---- a root and the records after it
 
-module _ (text : List ℕ) (s : State) (root calls notices records : List ℕ) (f : Fresh s) (h : Rooms calls notices records) where
+module _ (text : List ℕ) (s : State) (root calls notices records : List ℕ) (f : s .calls ≡ 0) (h : Rooms calls notices records) where
+  -- the notices before the root's
+  abbrev noticed : List ℕ
+  noticed = take (s .notices) notices
+
   abbrev judged : Judged Lowered
   judged = judgeRoot text s root room room
 
@@ -53,11 +59,11 @@ module _ (text : List ℕ) (s : State) (root calls notices records : List ℕ) (
   rooms = rw (h .calls-room, h .notices-room)
 
   pub root-refused : (x : Stepped) (r : Refusal) (cs ns rs : List ℕ) → x ≡ rootOutcome text s root calls notices .stepped → x .answer ≡ answer.Refused r
-      → Ends (printRoot text s judged) (ended.Refused r) cs ns rs
+      → Ends (printRoot text noticed s judged) (ended.Refused r) cs ns rs
   unfolding printRoot outcomeBy
   root-refused x r cs ns rs e g = turned-away _ r cs ns rs (go judged (sym (ap (λ (y : Stepped). y .answer) (e ∙ ap (λ o. o .stepped) rooms)) ∙ g))
     where
-      go : (j : Judged Lowered) → outcomeBy s calls notices j .stepped .answer ≡ answer.Refused r → printRoot text s j ≡ printedRefusal r
+      go : (j : Judged Lowered) → outcomeBy s calls notices j .stepped .answer ≡ answer.Refused r → printRoot text noticed s j ≡ printedRefusal r
       go (accepted l) i = let z : _≡_ {A = ℕ} 0 1 = cc in absurd (omega arith)
       go (refused q) i = let z : q ≡ r = cc in ap printedRefusal z
 
@@ -83,17 +89,17 @@ module _ (text : List ℕ) (s : State) (root calls notices records : List ℕ) (
     after : judgeRecords text (x .state) (length records) ≡ judgeRecords text (moved s (kept .0)) room
     after = ap (λ (y : State). judgeRecords text y (length records)) (kept .2) ∙ ap (judgeRecords text (moved s (kept .0))) (h .records-room)
 
-    prints : printRoot text s judged ≡ printRecords (kept .0) (judgeRecords text (moved s (kept .0)) room)
+    prints : printRoot text noticed s judged ≡ printRecords noticed (kept .0) (judgeRecords text (moved s (kept .0)) room)
     unfolding printRoot
-    prints = ap (printRoot text s) (kept .1)
+    prints = ap (printRoot text noticed s) (kept .1)
 
-    pub records-refused : (r : Refusal) (cs ns rs : List ℕ) → w ≡ written.Refused r → Ends (printRoot text s judged) (ended.Refused r) cs ns rs
+    pub records-refused : (r : Refusal) (cs ns rs : List ℕ) → w ≡ written.Refused r → Ends (printRoot text noticed s judged) (ended.Refused r) cs ns rs
     unfolding printRecords
-    records-refused r cs ns rs k = turned-away _ r cs ns rs (prints ∙ ap (printRecords (kept .0)) (records-by w _ r (v ∙ ap recordsAnswer after) k))
+    records-refused r cs ns rs k = turned-away _ r cs ns rs (prints ∙ ap (printRecords noticed (kept .0)) (records-by w _ r (v ∙ ap recordsAnswer after) k))
 
     pub all-written : (n : ℕ) (cs ns rs : List ℕ) → w ≡ written.Accepted n → cs ≡ rootOutcome text s root calls notices .calls
         → ns ≡ rootOutcome text s root calls notices .notices → rs ≡ recordsTarget records (judgeRecords text (x .state) (length records))
-        → Ends (printRoot text s judged) (ended.Written (x .state .calls) (x .state .notices) n) cs ns rs
+        → Ends (printRoot text noticed s judged) (ended.Written (x .state .calls) (x .state .notices) n) cs ns rs
     unfolding printRecords shown most outcomeBy moved recordsTarget
     all-written n cs ns rs k c d b =
         let l = kept .0 in
@@ -109,52 +115,71 @@ module _ (text : List ℕ) (s : State) (root calls notices records : List ℕ) (
         let b′ : rs ≡ laid 0 t records = b ∙ ap (recordsTarget records) (after ∙ y .1) in
         let p : take (x .state .calls) cs ≡ l .calls =
         (λ ι. take (i ι) (c′ ι)) ∙ take-laid (s .calls) (l .calls) calls (omega (arith, taken .calls-fit, h .calls-room)) ∙ ap
-        (λ (m : ℕ). take m calls ++ l .calls) (f .no-calls) in
-        let q : take (x .state .notices) ns ≡ l .notices =
-        (λ ι. take (j ι) (d′ ι)) ∙ take-laid (s .notices) (l .notices) notices (omega (arith, taken .notices-fit, h .notices-room)) ∙ ap
-        (λ (m : ℕ). take m notices ++ l .notices) (f .no-notices) in
+        (λ (m : ℕ). take m calls ++ l .calls) f in
+        let q : take (x .state .notices) ns ≡ noticed ++ l .notices =
+        (λ ι. take (j ι) (d′ ι)) ∙ take-laid (s .notices) (l .notices) notices (omega (arith, taken .notices-fit, h .notices-room)) in
         let m : n ≡ 0 + length t = omega (arith, y .2) in
         let u : take n rs ≡ t = (λ ι. take (m ι) (b′ ι)) ∙ take-laid 0 t records (omega (arith, fit, h .records-room)) in
         record {
-          shows = (λ ι. printed (p ι) (q ι) (u ι)) ∙ sym (prints ∙ ap (printRecords l) (y .1));
+          shows = (λ ι. printed (p ι) (q ι) (u ι)) ∙ sym (prints ∙ ap (printRecords noticed l) (y .1));
           within = (omega (arith, taken .calls-fit, i), omega (arith, taken .notices-fit, j), omega (arith, fit, y .2));
         }
 
 -- ---- the opening
 
-module _ (job text root : List ℕ) (x : Stepped) (e : x ≡ opened text job) where
-  opened-by : {A : Type 0} (g : Stepped → A) → g x ≡ g (openedBy (judgeOpening text job))
+module _ (job text root notices : List ℕ) (h : length notices ≡ room) (x : Stepped) (after : List ℕ) (e : x ≡ opened text job notices .stepped)
+    (n : after ≡ opened text job notices .notices) where
+  abbrev judgedOpening : Judged Settings
+  judgedOpening = judgeOpening text job room
+
+  opened-by : opened text job notices ≡ openedBy text notices judgedOpening
   unfolding opened
-  opened-by g = ap g e
+  opened-by = ap (λ (k : ℕ). openedBy text notices (judgeOpening text job k)) h
 
   pub job-refused : (r : Refusal) (cs ns rs : List ℕ) → x .answer ≡ answer.Refused r → Ends (jsxtape job text root) (ended.Refused r) cs ns rs
   unfolding jsxtape printOpening openedBy
-  job-refused r cs ns rs g = turned-away _ r cs ns rs (go (judgeOpening text job) (sym (opened-by (λ y. y .answer)) ∙ g))
+  job-refused r cs ns rs g = turned-away _ r cs ns rs (go judgedOpening (sym (ap (λ (y : Stepped). y .answer) (e ∙ ap (λ o. o .stepped) opened-by)) ∙ g))
     where
-      go : (j : Judged Settings) → openedBy j .answer ≡ answer.Refused r → printOpening text root j ≡ printedRefusal r
+      go : (j : Judged Settings) → openedBy text notices j .stepped .answer ≡ answer.Refused r → printOpening text root j ≡ printedRefusal r
       go (accepted s) i = let z : _≡_ {A = ℕ} 0 1 = cc in absurd (omega arith)
       go (refused q) i = let z : q ≡ r = cc in ap printedRefusal z
 
-  job-accepted : x .answer ≡ answer.Accepted → (s : Settings) × (judgeOpening text job ≡ accepted s) × (x .state ≡ openState s)
+  job-accepted : x .answer ≡ answer.Accepted
+      → (s : Settings) × (judgedOpening ≡ accepted s) × (x .state ≡ openState text s) × (after ≡ laid 0 (openingBytes text s) notices)
   unfolding openedBy
   job-accepted g =
-      let k = go (judgeOpening text job) (sym (opened-by (λ y. y .answer)) ∙ g) in
-      (k .0, k .1, opened-by (λ y. y .state) ∙ ap (λ j. openedBy j .state) (k .1))
+      let i = e ∙ ap (λ o. o .stepped) opened-by in
+      let k = go judgedOpening (sym (ap (λ (y : Stepped). y .answer) i) ∙ g) in (
+        k .0,
+        k .1,
+        ap (λ (y : Stepped). y .state) i ∙ ap (λ j. openedBy text notices j .stepped .state) (k .1),
+        n ∙ ap (λ o. o .notices) opened-by ∙ ap (λ j. openedBy text notices j .notices) (k .1),
+      )
     where
-      go : (j : Judged Settings) → openedBy j .answer ≡ answer.Accepted → (s : Settings) × (j ≡ accepted s)
+      go : (j : Judged Settings) → openedBy text notices j .stepped .answer ≡ answer.Accepted → (s : Settings) × (j ≡ accepted s)
       go (accepted s) i = (s, refl)
       go (refused q) i = let z : _≡_ {A = ℕ} 0 1 = cc in absurd (omega arith)
 
-  pub job-fresh : x .answer ≡ answer.Accepted → Fresh (x .state)
-  job-fresh g = let k = job-accepted g in record { no-calls = ap (λ (s : State). s .calls) (k .2); no-notices = ap (λ (s : State). s .notices) (k .2) }
+  pub job-fresh : x .answer ≡ answer.Accepted → x .state .calls ≡ 0
+  job-fresh g = ap (λ (s : State). s .calls) (job-accepted g .2)
+
+  -- the opening's notices stand at the front of their target
+  job-noticed : (g : x .answer ≡ answer.Accepted) → take (x .state .notices) after ≡ openingBytes text (job-accepted g .0)
+  job-noticed g =
+      let k = job-accepted g in
+      let b = openingBytes text (k .0) in
+      let fits = opening-opens text job room (k .0) (k .1) .fits in
+      (λ ι. take (k .2 ι .notices) (k .3 ι)) ∙ front-laid b notices (omega (arith, fits, h))
 
   pub job-opened : (y : Ended) (cs ns rs : List ℕ) → x .answer ≡ answer.Accepted
-      → Ends (printRoot text (x .state) (judgeRoot text (x .state) root room room)) y cs ns rs → Ends (jsxtape job text root) y cs ns rs
+      → Ends (printRoot text (take (x .state .notices) after) (x .state) (judgeRoot text (x .state) root room room)) y cs ns rs
+      → Ends (jsxtape job text root) y cs ns rs
   unfolding jsxtape printOpening
   job-opened y cs ns rs g c =
       let k = job-accepted g in
+      let b = job-noticed g in
       subst (λ (p : Printed). Ends p y cs ns rs)
-      (ap (λ (s : State). printRoot text s (judgeRoot text s root room room)) (k .2) ∙ sym (ap (printOpening text root) (k .1))) c
+      ((λ ι. printRoot text (b ι) (k .2 ι) (judgeRoot text (k .2 ι) root room room)) ∙ sym (ap (printOpening text root) (k .1))) c
 
 -- ---- what is printed
 

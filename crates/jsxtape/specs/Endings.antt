@@ -3,7 +3,6 @@ use mathlib.Core.Path.{_≡_}
 use Prim.Native.Nat.{ℕ, _≤_}
 use mathlib.Core.List.{List}
 use lib.ListN.{length, take}
-use Rattle.definitions.specs.declared.state.State.{State}
 use Rattle.definitions.specs.Program.{Printed, printed, printedRefusal, room}
 use Rattle.jsxtape.specs.declared.job.Ended.{Ended}
 use Rattle.jsxtape.specs.declared.job.Ended.the-variants.{Written, Refused}
@@ -22,11 +21,6 @@ most (Refused r) k = 0 ≤ k
 pub record Ends (p : Printed) (e : Ended) (calls notices records : List ℕ) : Type 0 where
   pub shows : shown e calls notices records ≡ p
   pub within : most e room
-
--- nothing is written yet
-pub record Fresh (s : State) : Type 0 where
-  pub no-calls : s .calls ≡ 0
-  pub no-notices : s .notices ≡ 0
 
 -- "Each of its targets holds 65,536 bytes"
 pub record Rooms (calls notices records : List ℕ) : Type 0 where

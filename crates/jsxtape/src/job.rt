@@ -1,7 +1,9 @@
 // A job of one root: opening, the root, the records.
+ghost use mathlib.Core.Path.{_≡_};
+ghost use lib.ListN.{take};
 ghost use Rattle.definitions.specs.Entries.{judgeRoot};
 ghost use Rattle.definitions.specs.Program.{room, printRoot, jsxtape};
-ghost use Rattle.jsxtape.specs.Endings.{Ends, Fresh, Rooms};
+ghost use Rattle.jsxtape.specs.Endings.{Ends, Rooms};
 use definitions::state::Answer;
 use definitions::state::State;
 use definitions::state::Written;
@@ -16,6 +18,7 @@ pub enum Ended {
     Refused(Refusal),
 }
 
+// The root behind an opening, whose notices stand at the front of their target.
 fn run_root(
     text: &[u8],
     state: State,
@@ -24,9 +27,9 @@ fn run_root(
     notices: &mut [u8],
     records: &mut [u8],
 ) -> Ended
-    requires { ⌜ Fresh state ⌝ }
+    requires { ⌜ state .calls ≡ 0 ⌝ }
     requires { ⌜ Rooms (now calls) (now notices) (now records) ⌝ }
-    ensures { λ r. ⌜ Ends (printRoot (now (text .entry)) state (judgeRoot (now (text .entry)) state (now (root .entry)) room room)) r (now (calls .exit)) (now (notices .exit)) (now (records .exit)) ⌝ }
+    ensures { λ r. ⌜ Ends (printRoot (now (text .entry)) (take (state .notices) (now (notices .entry))) state (judgeRoot (now (text .entry)) state (now (root .entry)) room room)) r (now (calls .exit)) (now (notices .exit)) (now (records .exit)) ⌝ }
 {
     let stepped = lower_root(text, state, root, calls, notices);
     let answer = stepped.answer;
@@ -52,7 +55,7 @@ pub fn run_job(
     requires { ⌜ Rooms (now calls) (now notices) (now records) ⌝ }
     ensures { λ r. ⌜ Ends (jsxtape (now (job .entry)) (now (text .entry)) (now (root .entry))) r (now (calls .exit)) (now (notices .exit)) (now (records .exit)) ⌝ }
 {
-    let opened = open_job(text, job);
+    let opened = open_job(text, job, notices);
     let answer = opened.answer;
     let state = opened.state;
     match answer {

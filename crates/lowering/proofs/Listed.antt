@@ -29,10 +29,9 @@ use Rattle.definitions.specs.declared.state.Answer.the-variants.{Accepted, Refu
 use Rattle.definitions.specs.declared.state.Stepped.{Stepped}
 use Rattle.definitions.specs.Judging.{Judged, accepted, refused, refuse, refuseAt}
 use Rattle.definitions.specs.States.{sound, overfilled}
-use Rattle.definitions.specs.Series.{World, outcomeIn, next, series}
+use Rattle.definitions.specs.Series.{World, opening, outcomeIn, next, series}
 use Rattle.definitions.specs.declared.options.Settings.{Settings}
 use Rattle.definitions.specs.Opening.{judgeOpening}
-use Rattle.definitions.specs.Entries.{openState}
 use Rattle.definitions.specs.Claim.{Kept}
 use Rattle.definitions.proofs.RootSeries.{refused-same}
 use Rattle.definitions.proofs.Demand3.{demand3}
@@ -299,7 +298,8 @@ pub run-is : (text l : List ℕ) (s : State) (calls notices : List ℕ) {r : Lis
     × ((r .taken ≡ run text (begun s calls notices) l .taken)
     × ((begun (r .state) calls′ notices′ ≡ run text (begun s calls notices) l .world)
     × ((begun (r .state) calls′ notices′ ≡ series text (begun s calls notices) (take (r .taken) (rootsIn l)))
-    × ((job : List ℕ) (z : Settings) → judgeOpening text job ≡ accepted z → s ≡ openState z → Kept text z calls notices (take (r .taken) (rootsIn l))))))
+    × ((job : List ℕ) (z : Settings) (target : List ℕ) → judgeOpening text job (length target) ≡ accepted z
+    → begun s calls notices ≡ opening text z calls target → Kept text z calls target (take (r .taken) (rootsIn l))))))
 run-is text l s calls notices {r} e =
     let w = begun s calls notices in
     let t : r .taken ≡ run text w l .taken = ap (λ (x : Run). x .taken) e in
@@ -311,7 +311,7 @@ run-is text l s calls notices {r} e =
           v,
           (
             v ∙ run-leaves text w l ∙ ap (λ (k : ℕ). series text w (take k (rootsIn l))) (sym t),
-            λ job z h q. demand3 text job z h calls notices (take (r .taken) (rootsIn l)),
+            λ job z target h q. demand3 text job z calls target h (take (r .taken) (rootsIn l)),
           ),
         ),
       ),

@@ -9,9 +9,8 @@ ghost use Rattle.text.specs.Utf8.{firstIll};
 ghost use Rattle.definitions.specs.declared.state.Answer.the-variants.{Refused};
 ghost use Rattle.definitions.specs.Judging.{accepted};
 ghost use Rattle.definitions.specs.Opening.{judgeOpening};
-ghost use Rattle.definitions.specs.Entries.{openState};
 ghost use Rattle.definitions.specs.Entries.{rootOutcome};
-ghost use Rattle.definitions.specs.Series.{next, series};
+ghost use Rattle.definitions.specs.Series.{opening, next, series};
 ghost use Rattle.definitions.specs.Claim.{Kept};
 ghost use Rattle.lowering.specs.Steps.{Going, Comes};
 ghost use Rattle.lowering.specs.RootLists.{rootsFrom, rootsIn, rootsBy, Stands, ending, runTested, run, ran};
@@ -60,7 +59,7 @@ fn lower_next(text: &[u8], state: State, root: &[u8], calls: &mut [u8], notices:
 }
 
 // The roots of a list, each over the state that the last one left and the same targets; one that is refused changes nothing. Demand 3 holds of
-// them over the state that an accepted opening gave.
+// them over what an accepted opening left: its state, and its notices in their target.
 pub fn lower_series(
     text: &[u8],
     state: State,
@@ -71,7 +70,7 @@ pub fn lower_series(
     ensures { λ r. ⌜ r ≡ series (now (text .entry)) (record { state = state; calls = now (calls .entry); notices = now (notices .entry) }) (rootsIn (now (roots .entry))) .state ⌝ }
     ensures { λ _. ⌜ now (calls .exit) ≡ series (now (text .entry)) (record { state = state; calls = now (calls .entry); notices = now (notices .entry) }) (rootsIn (now (roots .entry))) .calls ⌝ }
     ensures { λ _. ⌜ now (notices .exit) ≡ series (now (text .entry)) (record { state = state; calls = now (calls .entry); notices = now (notices .entry) }) (rootsIn (now (roots .entry))) .notices ⌝ }
-    ensures { λ _. ⌜ ((job : List ℕ) (s : Settings) → judgeOpening (now (text .entry)) job ≡ accepted s → state ≡ openState s → Kept (now (text .entry)) s (now (calls .entry)) (now (notices .entry)) (rootsIn (now (roots .entry)))) ⌝ }
+    ensures { λ _. ⌜ ((job : List ℕ) (s : Settings) (target : List ℕ) → judgeOpening (now (text .entry)) job (length target) ≡ accepted s → record { state = state; calls = now (calls .entry); notices = now (notices .entry) } ≡ opening (now (text .entry)) s (now (calls .entry)) target → Kept (now (text .entry)) s (now (calls .entry)) target (rootsIn (now (roots .entry)))) ⌝ }
 {
     let mut last = state;
     let mut at = 0;
@@ -198,7 +197,7 @@ fn lower_list_if_unforged(
 }
 
 // The roots of a list in turn, up to the first that is refused. Text and state are tested once, before the first of them and also where there is none.
-// Demand 3 holds of the roots that were taken over the state that an accepted opening gave.
+// Demand 3 holds of the roots that were taken over what an accepted opening left: its state, and its notices in their target.
 pub fn lower_list(
     text: &[u8],
     state: State,
@@ -210,7 +209,7 @@ pub fn lower_list(
     ensures { λ r. ⌜ r .taken ≡ run (now (text .entry)) (record { state = state; calls = now (calls .entry); notices = now (notices .entry) }) (now (roots .entry)) .taken ⌝ }
     ensures { λ r. ⌜ record { state = r .state; calls = now (calls .exit); notices = now (notices .exit) } ≡ run (now (text .entry)) (record { state = state; calls = now (calls .entry); notices = now (notices .entry) }) (now (roots .entry)) .world ⌝ }
     ensures { λ r. ⌜ record { state = r .state; calls = now (calls .exit); notices = now (notices .exit) } ≡ series (now (text .entry)) (record { state = state; calls = now (calls .entry); notices = now (notices .entry) }) (take (r .taken) (rootsIn (now (roots .entry)))) ⌝ }
-    ensures { λ r. ⌜ ((job : List ℕ) (s : Settings) → judgeOpening (now (text .entry)) job ≡ accepted s → state ≡ openState s → Kept (now (text .entry)) s (now (calls .entry)) (now (notices .entry)) (take (r .taken) (rootsIn (now (roots .entry))))) ⌝ }
+    ensures { λ r. ⌜ ((job : List ℕ) (s : Settings) (target : List ℕ) → judgeOpening (now (text .entry)) job (length target) ≡ accepted s → record { state = state; calls = now (calls .entry); notices = now (notices .entry) } ≡ opening (now (text .entry)) s (now (calls .entry)) target → Kept (now (text .entry)) s (now (calls .entry)) target (take (r .taken) (rootsIn (now (roots .entry))))) ⌝ }
 {
     if MAX_LENGTH < text.len() {
         return list_refused(state, Refusal::TooLong);

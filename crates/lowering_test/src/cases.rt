@@ -4,6 +4,7 @@ ghost use lib.ListN.{length};
 use crate::show::say;
 use crate::show::show_answer;
 use crate::show::show_kept;
+use crate::show::show_left;
 use crate::show::show_records;
 use crate::show::show_targets;
 use crate::states::replaced;
@@ -78,52 +79,45 @@ fn run_roots(text: &[u8], state: State, rooms: &[u8], calls: &mut [u8], notices:
     show_records(text, two, &mut records[0..room]);
 }
 
-// Lends the targets. What `sizes` begins with are their fields.
-fn run_state(text: &[u8], state: State, sizes: &[u8]) {
+// Lends the target for calls beside that for notices. What `sizes` begins with are their fields.
+fn run_state(text: &[u8], state: State, sizes: &[u8], notices: &mut [u8]) {
     let mut calls = [0xee; 4096];
-    let mut notices = [0xee; 4096];
-    let call_room = room_of(before(sizes, b'|'));
+    let room = room_of(before(sizes, b'|'));
     let rest = after(sizes, b'|');
-    let notice_room = room_of(before(rest, b'|'));
-    run_roots(
-        text,
-        state,
-        after(rest, b'|'),
-        &mut calls[0..call_room],
-        &mut notices[0..notice_room],
-    );
+    run_roots(text, state, after(rest, b'|'), &mut calls[0..room], notices);
 }
 
 // The roots over the state of an opening, some of whose bytes may be replaced, and over the text that a field spells.
-fn run_opened(field: &[u8], state: State, rest: &[u8]) {
+fn run_opened(field: &[u8], state: State, rest: &[u8], notices: &mut [u8]) {
     let mut text = io::large_buffer();
     let n = bytes_of(field, &mut text);
     run_state(
         &text[0..n],
         replaced(state, before(rest, b'|')),
         after(rest, b'|'),
+        notices,
     );
 }
 
-// Opens the job over the text of a field. The roots are given the same, or the one behind `>`.
-fn run_job(job: &[u8], field: &[u8], rest: &[u8]) {
+// Opens the job over the text of a field. The roots are given the same, or the one behind `>`, and their notices go behind the opening's.
+fn run_job(job: &[u8], field: &[u8], rest: &[u8], notices: &mut [u8]) {
     let first = before(field, b'>');
     let mut text = io::large_buffer();
     let n = bytes_of(first, &mut text);
-    let opened = open_job(&text[0..n], job);
+    let opened = open_job(&text[0..n], job, notices);
     let answer = opened.answer;
     let state = opened.state;
     match answer {
         Answer::Refused(_) => {
             say(b" opening");
             show_answer(answer);
-            say(b"\n");
+            show_left(notices);
         }
         Answer::Accepted => {
             if first.len() == field.len() {
-                run_opened(field, state, rest);
+                run_opened(field, state, rest, notices);
             } else {
-                run_opened(after(field, b'>'), state, rest);
+                run_opened(after(field, b'>'), state, rest, notices);
             }
         }
     }
@@ -135,8 +129,13 @@ fn run_line(line: &[u8]) {
     let mut job = [0u8; 256];
     let tapes = after(line, b'|');
     let n = hex_bytes(before(tapes, b'|'), &mut job);
-    let rest = after(tapes, b'|');
-    run_job(&job[0..n], before(rest, b'|'), after(rest, b'|'));
+    let texts = after(tapes, b'|');
+    let rest = after(texts, b'|');
+    let sizes = after(rest, b'|');
+    let behind = after(sizes, b'|');
+    let room = room_of(before(behind, b'|'));
+    let mut notices = [0xee; 4096];
+    run_job(&job[0..n], before(texts, b'|'), rest, &mut notices[0..room]);
 }
 
 pub fn run() {

@@ -59,6 +59,13 @@ pub fn show_targets(state: State, calls: &[u8], notices: &[u8]) {
     show_target(b"; notices ", state.notices, notices);
 }
 
+// The notices that a refused opening left, and the end of the line.
+pub fn show_left(notices: &[u8]) {
+    say(b"; notices");
+    show_whole(notices);
+    say(b"\n");
+}
+
 // Writes the records and ends the line.
 pub fn show_records(text: &[u8], state: State, target: &mut [u8]) {
     match write_records(text, state, target) {

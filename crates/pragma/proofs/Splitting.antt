@@ -1,9 +1,9 @@
 -- A pragma's parts one after another, as the code cuts them out.
 --     split-first            the first part, and those behind it
 --     next-part              the part behind the dot at a place of a list
---     form-parts             a pragma's root and what stands behind it
+--     pragma-parts           a pragma's root and what stands behind it
 --     word-hit, -on          the walk over words, `isOneOf`
---     name-bad, -on          the walk over a pragma's tail, `formWith`
+--     tail-bad, -on, -end    the walk over a pragma's tail, `tailFrom`
 -- Assumes nothing.
 use mathlib.Core.Path.{_≡_, refl, sym, ap, _∙_}
 use mathlib.Core.Bool.{Bool, true, false, cond}
@@ -12,16 +12,16 @@ use Prim.Native.Nat.{ℕ, suc, _+_, _-_, _≤_, _<_}
 use native.Mathlib.Nat.{sub-zero}
 use native.Mathlib.Omega.{arith}
 use lib.ListN.{length, take, drop, length-drop, drop-of-length-le}
-use lib.Seq.{take-length, drop-length, drop-drop}
+use lib.Seq.{take-length, drop-length, drop-drop, length-take-le}
 use lib.Dec.{eqb}
 use borrow.Author.Tests.{eqb-true, eqb-false, eq-eqb, ne-eqb}
 use Rattle.text.specs.declared.bytes.Found.{Found}
 use Rattle.text.specs.declared.bytes.Found.the-variants.{At, Nothing}
 use Rattle.text.specs.Bytes.{same, findFrom, find}
 use Rattle.definitions.specs.Comments.{orElse}
-use Rattle.definitions.specs.declared.options.Form.{Form}
 use Rattle.definitions.specs.declared.options.PragmaRoot.{PragmaRoot}
-use Rattle.definitions.specs.Pragmas.{onto, split, isIdentifierName, isOneOf, allNames, defaultForm, formWith, formOfParts, formOf}
+use Rattle.definitions.specs.declared.options.PragmaRead.the-variants.{Valid, Invalid}
+use Rattle.definitions.specs.Pragmas.{onto, split, isIdentifierName, isOneOf, tailFrom, partsRead, pragmaOf}
 use Rattle.text.proofs.Lists.{tail-part, drop-one}
 use Rattle.text.proofs.Searching.{find-at, find-found}
 use Rattle.pragma.specs.Parts.{firstLength, partsBehind}
@@ -83,20 +83,25 @@ module _ (l : List ℕ) (i n : ℕ) (h : i < length l) (e : n ≡ firstLength (t
       let d : i + 1 + n - (i + 1) ≡ n = omega arith in
       ap partsBehind (drop-one l i h) ∙ rw (d, part-is, ← drop-drop (firstLength (drop (i + 1) l)) (i + 1) l) (split-first (drop (i + 1) l) .1)
 
+  pub part-length : length (take (i + 1 + n - (i + 1)) (drop (i + 1) l)) ≡ i + 1 + n - (i + 1)
+  part-length = length-take-le (i + 1 + n - (i + 1)) (drop (i + 1) l) (omega (arith, part-inside, length-drop (i + 1) l))
+
 -- n is the length of the first part: `&l[0..n]` is it, and `&l[n..]` what stands behind it
 module _ (l : List ℕ) (n : ℕ) (e : n ≡ firstLength l) where
   pub first-inside : n ≤ length l
   first-inside = omega (arith, e, split-first l .0)
 
-  pub form-parts : formOf l ≡ formOfParts (take (n - 0) (drop 0 l) ∷ partsBehind (take (length l - n) (drop n l)))
-  unfolding formOf
-  form-parts = ap formOfParts (rw (sub-zero n, tail-part l n, e) (split-first l .1))
+  pub pragma-parts : pragmaOf l ≡ partsRead (take (n - 0) (drop 0 l) ∷ partsBehind (drop n l))
+  unfolding pragmaOf
+  pragma-parts = ap partsRead (rw (sub-zero n, e) (split-first l .1))
+
+  pub root-length : length (take (n - 0) (drop 0 l)) ≡ n
+  root-length = rw (sub-zero n) (length-take-le n l first-inside)
 
 -- nothing stands behind the last part
-pub behind-none : (l : List ℕ) → length l ≡ 0 → partsBehind l ≡ []
+pub behind-none : (l : List ℕ) (i : ℕ) → length l ≤ i → partsBehind (drop i l) ≡ []
 unfolding partsBehind
-behind-none [] e = refl
-behind-none (b ∷ l) e = absurd (omega arith)
+behind-none l i h = rw (drop-of-length-le l h)
 
 -- ---- a word looked for among the parts from place i on
 module _ (w l : List ℕ) (i n : ℕ) (h : i < length l) (e : n ≡ firstLength (take (length l - (i + 1)) (drop (i + 1) l))) where
@@ -109,29 +114,21 @@ module _ (w l : List ℕ) (i n : ℕ) (h : i < length l) (e : n ≡ firstLength 
   unfolding isOneOf
   word-on q = ap (isOneOf w) (next-part l i n h e) ∙ rw q
 
--- ---- the form with root r, of whose parts m have been passed
-unfoldable pub formFrom : ℕ → PragmaRoot → List (List ℕ) → Form
-formFrom m r ws = cond (allNames ws) (record { root = r; tail = m + length ws }) defaultForm
+-- ---- the tail with root r, of whose parts m stand before place i
+module _ (r : PragmaRoot) (m : ℕ) (l : List ℕ) (i : ℕ) where
+  pub tail-end : length l ≤ i → tailFrom r m (i + 1) (partsBehind (drop i l)) ≡ Valid (record { root = r; tail = m })
+  unfolding tailFrom
+  tail-end h = ap (tailFrom r m (i + 1)) (behind-none l i h)
 
-module _ (r : PragmaRoot) where
-  pub form-start : (ws : List (List ℕ)) → formWith r ws ≡ formFrom 0 r ws
-  unfolding formFrom
-  form-start ws = let d : 0 + length ws ≡ length ws = omega arith in rw d
+  module _ (n : ℕ) (h : i < length l) (e : n ≡ firstLength (take (length l - (i + 1)) (drop (i + 1) l))) where
+    pub tail-bad : isIdentifierName (take (i + 1 + n - (i + 1)) (drop (i + 1) l)) ≡ false
+        → tailFrom r m (i + 1) (partsBehind (drop i l)) ≡ Invalid (i + 1) (i + 1 + n - (i + 1))
+    unfolding tailFrom
+    tail-bad q = ap (tailFrom r m (i + 1)) (next-part l i n h e) ∙ rw (q, part-length l i n h e)
 
-  pub form-end : (m : ℕ) (l : List ℕ) (i : ℕ) → length l ≤ i → formFrom m r (partsBehind (drop i l)) ≡ record { root = r; tail = m }
-  unfolding formFrom partsBehind allNames
-  form-end m l i h = let d : m + 0 ≡ m = omega arith in rw (drop-of-length-le l h, d)
-
-  module _ (m : ℕ) (l : List ℕ) (i n : ℕ) (h : i < length l) (e : n ≡ firstLength (take (length l - (i + 1)) (drop (i + 1) l))) where
-    pub name-bad : isIdentifierName (take (i + 1 + n - (i + 1)) (drop (i + 1) l)) ≡ false
-        → formFrom m r (partsBehind (drop i l)) ≡ defaultForm
-    unfolding formFrom allNames
-    name-bad q = ap (formFrom m r) (next-part l i n h e) ∙ rw q
-
-    pub name-on : isIdentifierName (take (i + 1 + n - (i + 1)) (drop (i + 1) l)) ≡ true
-        → formFrom m r (partsBehind (drop i l)) ≡ formFrom (m + 1) r (partsBehind (drop (i + 1 + n) l))
-    unfolding formFrom allNames
-    name-on q =
-        let rest = partsBehind (drop (i + 1 + n) l) in
-        let d : m + suc (length rest) ≡ m + 1 + length rest = omega arith in
-        ap (formFrom m r) (next-part l i n h e) ∙ rw (q, d)
+    pub tail-on : isIdentifierName (take (i + 1 + n - (i + 1)) (drop (i + 1) l)) ≡ true
+        → tailFrom r m (i + 1) (partsBehind (drop i l)) ≡ tailFrom r (m + 1) (i + 1 + n + 1) (partsBehind (drop (i + 1 + n) l))
+    unfolding tailFrom
+    tail-on q =
+        let d : i + 1 + n - (i + 1) ≡ n = omega arith in
+        ap (tailFrom r m (i + 1)) (next-part l i n h e) ∙ rw (q, part-length l i n h e, d)

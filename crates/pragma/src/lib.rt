@@ -1,26 +1,20 @@
-// What a pragma is: `Pragma` of jsx_impl.rs, its root and the number of parts behind it.
+// What a pragma is: `Pragma` of jsx_impl.rs, its root and the number of parts behind it; or the first part that fails.
 ghost use mathlib.Core.Path.{_≡_};
-ghost use Rattle.definitions.specs.Pragmas.{defaultForm, isIdentifierStart, isIdentifierPart, isIdentifierName, isOneOf, isReservedWord, formWith, metaForm, formOf, formIn};
-ghost use Rattle.definitions.specs.Opening.{formUnder, overAsciiIn, ifClassic};
+ghost use Prim.Native.Nat.{_+_, _≤_};
+ghost use lib.ListN.{length, drop};
+ghost use Rattle.definitions.specs.Pragmas.{isIdentifierStart, isIdentifierPart, isIdentifierName, isOneOf, isReservedWord, tailFrom, metaBehind, pragmaOf, pragmaIn, formBy};
+ghost use Rattle.definitions.specs.Opening.{pragmaUnder, formUnder, overAsciiIn, ifClassic};
 ghost use Rattle.pragma.specs.Parts.{firstLength, partsBehind};
 use definitions::options::Form;
 use definitions::options::Mode;
 use definitions::options::Optional;
+use definitions::options::PragmaRead;
 use definitions::options::PragmaRoot;
 use text::bytes::Found;
 use text::bytes::find_byte;
 use text::bytes::find_over_ascii;
 use text::bytes::same;
 use text::spans::part;
-
-fn default_form() -> Form
-    ensures { λ r. ⌜ r ≡ defaultForm ⌝ }
-{
-    Form {
-        root: PragmaRoot::Default,
-        tail: 0,
-    }
-}
 
 fn is_identifier_start(b: u8) -> bool
     ensures { λ r. ⌜ r ≡ isIdentifierStart b ⌝ }
@@ -88,82 +82,119 @@ fn is_reserved_keyword(w: &[u8]) -> bool
     )
 }
 
-// The form with this root, if all parts behind it are identifier names. What stands behind a part is nothing, or a dot and the next one.
-fn form_with(root: PragmaRoot, behind: &[u8]) -> Form
-    ensures { λ r. ⌜ r ≡ formWith root (partsBehind (now (behind .entry))) ⌝ }
+// The parts behind place `at`, where a dot or the pragma's end stands: the form with this root if all of them are identifier names, else the first that is none.
+fn read_tail(root: PragmaRoot, pragma: &[u8], at: usize) -> PragmaRead
+    requires { ⌜ at ≤ length (now pragma) ⌝ }
+    ensures { λ r. ⌜ r ≡ tailFrom root 0 (at + 1) (partsBehind (drop at (now (pragma .entry)))) ⌝ }
 {
-    let mut i = 0;
+    let mut i = at;
     let mut n = 0;
-    while i < behind.len() {
+    while i < pragma.len() {
         let start = i + 1;
-        let end = start + first_length(&behind[start..]);
-        if !is_identifier_name(&behind[start..end]) {
-            return default_form();
+        let end = start + first_length(&pragma[start..]);
+        if !is_identifier_name(&pragma[start..end]) {
+            return PragmaRead::Invalid(start, end - start);
         }
         n += 1;
         i = end;
     }
-    Form {
+    let form = Form {
         root: root,
         tail: n,
-    }
+    };
+    PragmaRead::Valid(form)
 }
 
-// The form of what stands behind `import`.
-fn meta_form(behind: &[u8]) -> Form
-    ensures { λ r. ⌜ r ≡ metaForm (partsBehind (now (behind .entry))) ⌝ }
+// What stands behind the root `import`, which ends at place `at`.
+fn read_meta(pragma: &[u8], at: usize) -> PragmaRead
+    requires { ⌜ at ≤ length (now pragma) ⌝ }
+    ensures { λ r. ⌜ r ≡ metaBehind at (partsBehind (drop at (now (pragma .entry)))) ⌝ }
 {
-    if behind.len() == 0 {
-        return default_form();
+    if at == pragma.len() {
+        return PragmaRead::Invalid(0, at);
     }
-    let end = 1 + first_length(&behind[1..]);
-    if same(&behind[1..end], b"meta") {
-        return form_with(PragmaRoot::ImportMeta, &behind[end..]);
+    let start = at + 1;
+    let end = start + first_length(&pragma[start..]);
+    if same(&pragma[start..end], b"meta") {
+        return read_tail(PragmaRoot::ImportMeta, pragma, end);
     }
-    default_form()
+    PragmaRead::Invalid(0, at)
 }
 
-// The form of a pragma: the default where it is not valid.
-pub fn parse_impl(pragma: &[u8]) -> Form
-    ensures { λ r. ⌜ r ≡ formOf (now (pragma .entry)) ⌝ }
+// A pragma: its form, or the first part that fails, its place counted from the pragma's front.
+pub fn parse_impl(pragma: &[u8]) -> PragmaRead
+    ensures { λ r. ⌜ r ≡ pragmaOf (now (pragma .entry)) ⌝ }
 {
     let end = first_length(pragma);
     let root = &pragma[0..end];
-    let behind = &pragma[end..];
     if same(root, b"this") {
-        return form_with(PragmaRoot::This, behind);
+        return read_tail(PragmaRoot::This, pragma, end);
     }
     if same(root, b"import") {
-        return meta_form(behind);
+        return read_meta(pragma, end);
     }
     if !is_identifier_name(root) {
-        return default_form();
+        return PragmaRead::Invalid(0, end);
     }
     if is_reserved_keyword(root) {
-        return default_form();
+        return PragmaRead::Invalid(0, end);
     }
-    form_with(PragmaRoot::Identifier, behind)
+    read_tail(PragmaRoot::Identifier, pragma, end)
 }
 
-// The form of a pragma that may be absent.
-pub fn parse_no_ctx(text: &[u8], pragma: Optional) -> Form
-    ensures { λ r. ⌜ r ≡ formIn (now (text .entry)) pragma ⌝ }
+// A pragma that may be absent; the place of a part that fails is its place in the text.
+pub fn parse_no_ctx(text: &[u8], pragma: Optional) -> PragmaRead
+    ensures { λ r. ⌜ r ≡ pragmaIn (now (text .entry)) pragma ⌝ }
 {
     match pragma {
-        Optional::Absent => default_form(),
-        Optional::Present(span) => parse_impl(part(text, span)),
+        Optional::Absent => PragmaRead::Absent,
+        Optional::Present(span) => {
+            let start = span.start as usize;
+            match parse_impl(part(text, span)) {
+                PragmaRead::Absent => PragmaRead::Absent,
+                PragmaRead::Valid(form) => PragmaRead::Valid(form),
+                PragmaRead::Invalid(place, len) => {
+                    let offset = start + place;
+                    PragmaRead::Invalid(offset, len)
+                }
+            }
+        }
     }
 }
 
-// The form of a pragma in these bindings: only classic ones have pragmas.
+// A pragma in these bindings: only classic ones have pragmas.
+pub fn pragma_under(mode: Mode, text: &[u8], pragma: Optional) -> PragmaRead
+    ensures { λ r. ⌜ r ≡ pragmaUnder mode (now (text .entry)) pragma ⌝ }
+{
+    match mode {
+        Mode::Module => PragmaRead::Absent,
+        Mode::Script => PragmaRead::Absent,
+        Mode::Classic => parse_no_ctx(text, pragma),
+    }
+}
+
+// The form that settings take: the default's where none is there and where it is not valid.
+pub fn form_by(read: PragmaRead) -> Form
+    ensures { λ r. ⌜ r ≡ formBy read ⌝ }
+{
+    match read {
+        PragmaRead::Valid(form) => form,
+        PragmaRead::Absent => Form {
+            root: PragmaRoot::Default,
+            tail: 0,
+        },
+        PragmaRead::Invalid(_, _) => Form {
+            root: PragmaRoot::Default,
+            tail: 0,
+        },
+    }
+}
+
+// The form of a pragma in these bindings.
 pub fn form_under(mode: Mode, text: &[u8], pragma: Optional) -> Form
     ensures { λ r. ⌜ r ≡ formUnder mode (now (text .entry)) pragma ⌝ }
 {
-    match mode {
-        Mode::Module => default_form(),
-        Mode::Script => default_form(),
-        Mode::Classic => parse_no_ctx(text, pragma),
-    }
+    form_by(pragma_under(mode, text, pragma))
 }
 
 // The place of the first byte over 7F of a pragma.

@@ -4,7 +4,7 @@
 //
 // The file `stdin` is a list that tests/rust/sample.py chose from a large one, so that every command and setting is there, and every refusal that a
 // series can come to. The file `stdout` is not what this program wrote: settings, calls, notices and records in it are the Rust's, as it answered when
-// the list was made, and the numbers and figures of refusals are those of a reading of the specification in Python.
+// the list was made; the notices of openings, which the Rust has none of, and the numbers and figures of refusals are those of a reading of the specification in Python.
 mod openings;
 mod reading;
 mod showing;
@@ -97,6 +97,13 @@ fn show_records(text: &[u8], state: State, open: &mut bool) {
     }
 }
 
+// What the opening told, where it told something.
+fn show_told(notices: &[u8], fill: usize, open: &mut bool) {
+    if 0 < fill {
+        show_part(b"notices", notices, 0, fill, open);
+    }
+}
+
 // Passes over the roots of a job that was not opened.
 fn pass_roots(count: usize, tape: &mut [u8]) {
     let mut number = 0;
@@ -118,7 +125,7 @@ fn replay_job(
     notices: &mut [u8],
     open: &mut bool,
 ) {
-    let opened = open_job(text, job);
+    let opened = open_job(text, job, notices);
     let answer = opened.answer;
     let state = opened.state;
     say(b"opening", open);
@@ -130,6 +137,7 @@ fn replay_job(
         Answer::Accepted => {
             let settings = state.settings;
             show_settings(text, settings, open);
+            show_told(notices, state.notices, open);
             let last = replay_roots(text, state, count, tape, calls, notices, open);
             show_records(text, last, open);
         }

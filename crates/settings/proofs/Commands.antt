@@ -11,10 +11,12 @@ use lib.ListN.{length, drop, length-drop}
 use lib.Seq.{drop-drop}
 use lib.Dec.{eqb, ltb}
 use borrow.Author.Tests.{ltb-false}
+use Rattle.text.specs.declared.bytes.Found.the-variants.{Nothing}
 use Rattle.text.specs.declared.spans.Span.{Span}
 use Rattle.text.specs.declared.spans.Bounds.{Bounds}
 use Rattle.text.specs.declared.spans.Bounds.the-variants as bounds
 use Rattle.text.specs.Spans.{boundsOf}
+use Rattle.text.specs.Utf8.{firstIll}
 use Rattle.commands.specs.declared.opening.OptionCommand.{OptionCommand}
 use Rattle.commands.specs.declared.opening.OptionCommand.the-variants as option
 use Rattle.tape.specs.declared.refusal.Fault.{Fault}
@@ -25,13 +27,15 @@ use Rattle.definitions.specs.declared.options.Options.{Options}
 use Rattle.definitions.specs.Judging.{Parsed, done, stop, from, spanned, Judged, accepted, refused, read}
 use Rattle.definitions.specs.Comments.{withComments}
 use Rattle.definitions.specs.Opening.{Opening, bare, withPragma, withPragmaFrag, withImportSource, andComment, optionBy, optionsFrom, readOpening}
-use Rattle.definitions.specs.Opening.{optionsOf, settingsOf, pragmasChecked}
+use Rattle.definitions.specs.Opening.{optionsOf, judgeOptions}
+use Rattle.definitions.proofs.Verdicts.{past-read, accepted-same}
+use Rattle.definitions.proofs.Openings.{opening-told, options-borne}
 use Rattle.comments.specs.Tapes.{commentsOf}
 use Rattle.comments.proofs.Tapes.{comments-front}
 use Rattle.settings.specs.declared.opening.Next.{Next}
 use Rattle.settings.specs.declared.opening.Next.the-variants as next
 use Rattle.settings.specs.declared.opening.OpeningRead.the-variants as outcome
-use Rattle.settings.specs.Tapes.{optionsBefore, spannedBy, nextBy, judgedOptions, judgedBy, behindFlags, openedTape}
+use Rattle.settings.specs.Tapes.{optionsBefore, spannedBy, nextBy, judgedOptions, judgedBy, behindFlags, openedTape, Borne}
 
 -- ---- what stands at the front of a tape where a command was read
 unfoldable pub Front : List ℕ → OptionCommand → Type 0
@@ -259,18 +263,27 @@ unfolding read onJudged
 read-on (done a u) f k j e = ap (λ (x : Judged _). onJudged x k) e
 read-on (stop g i) f k j e = ap (λ (x : Judged _). onJudged x k) e
 
-module _ (text tape : List ℕ) where
+module _ (text tape : List ℕ) (room : ℕ) where
   by-reading : (j : Judged Options) → judgedOptions text (readOpening text tape) ≡ j
-      → openedTape text tape ≡ onJudged j (λ (p : Options). pragmasChecked text (settingsOf text p))
+      → openedTape text tape room ≡ onJudged j (λ (p : Options). judgeOptions text room p)
   unfolding judgedOptions openedTape
-  by-reading j e = read-on (readOpening text tape) (optionsOf text) (λ (p : Options). pragmasChecked text (settingsOf text p)) j e
+  by-reading j e = read-on (readOpening text tape) (optionsOf text) (λ (p : Options). judgeOptions text room p) j e
 
   pub tape-refused : (f : Fault) (i : ℕ) → judgedOptions text (readOpening text tape) ≡ judgedBy text tape (outcome.Stop f i)
-      → openedTape text tape ≡ refused (refusal.Tape f i)
+      → openedTape text tape room ≡ refused (refusal.Tape f i)
   unfolding judgedBy onJudged
   tape-refused f i e = by-reading (judgedBy text tape (outcome.Stop f i)) e
 
   pub tape-read : (p : Options) → judgedOptions text (readOpening text tape) ≡ judgedBy text tape (outcome.Done p)
-      → openedTape text tape ≡ pragmasChecked text (settingsOf text (withComments text p (commentsOf (drop 3 tape))))
+      → openedTape text tape room ≡ judgeOptions text room (withComments text p (commentsOf (drop 3 tape)))
   unfolding judgedBy onJudged
   tape-read p e = by-reading (judgedBy text tape (outcome.Done p)) e
+
+-- the pragmas of options that were read are borne out
+pub tape-borne : (text tape : List ℕ) → firstIll text ≡ Nothing → (p : Options) → judgedOptions text (readOpening text tape) ≡ judgedBy text tape (outcome.Done p)
+    → Borne text (withComments text p (commentsOf (drop 3 tape)))
+unfolding judgedOptions judgedBy
+tape-borne text tape good p e =
+    let d = past-read (readOpening text tape) (λ (o : Opening). accepted (optionsOf text o)) _ e in
+    let b = options-borne text good (d .0) (opening-told text (d .0) tape (d .1) (d .2)) in
+    subst (Borne text) (accepted-same _ _ (d .3)) (record { pragma = b .pair-pragma; frag = b .pair-frag })

@@ -1,5 +1,7 @@
 -- What the walks over the opening tape give, in the terms of crate `definitions`.
-use Prim.Native.Nat.{ℕ, suc}
+use Prim.Native.Nat.{ℕ, suc, _+_, _≤_}
+use mathlib.Core.Path.{_≡_}
+use mathlib.Core.Bool.{true}
 use mathlib.Core.List.{List}
 use lib.ListN.{length, drop, replicate}
 use Rattle.text.specs.declared.spans.Bounds.{Bounds}
@@ -12,13 +14,17 @@ use Rattle.tape.specs.declared.refusal.Refusal.the-variants as refusal
 use Rattle.definitions.specs.declared.options.Optional.{Optional}
 use Rattle.definitions.specs.declared.options.Optional.the-variants.{Absent, Present}
 use Rattle.definitions.specs.declared.options.Options.{Options}
+use Rattle.definitions.specs.declared.options.PragmaRead.{PragmaRead}
+use Rattle.definitions.specs.declared.options.PragmaRead.the-variants as pragma
 use Rattle.definitions.specs.declared.options.Settings.{Settings}
 use Rattle.definitions.specs.declared.state.State.{State}
+use Rattle.definitions.specs.declared.state.Stepped.{Stepped}
 use Rattle.definitions.specs.Judging.{Parsed, from, Judged, accepted, refused, read}
 use Rattle.definitions.specs.Options.{flagsOf, conform}
 use Rattle.definitions.specs.Comments.{withComments}
-use Rattle.definitions.specs.Opening.{Opening, bare, optionsFrom, readOpening, optionsOf, settingsOf, pragmasChecked}
-use Rattle.definitions.specs.Entries.{noRecord}
+use Rattle.definitions.specs.Opening.{Opening, bare, optionsFrom, readOpening, optionsOf, judgeOptions}
+use Rattle.definitions.specs.States.{borneOut}
+use Rattle.definitions.specs.Entries.{noRecord, OpeningOutcome}
 use Rattle.comments.specs.Tapes.{commentsOf}
 use Rattle.settings.specs.declared.opening.Next.{Next}
 use Rattle.settings.specs.declared.opening.Next.the-variants as next
@@ -80,10 +86,26 @@ behindFlags text tape n = from 3 (optionsFrom (suc (length tape)) text 0x61 (bar
 
 -- ---- the answer
 
--- a state with no records, whose count is k
-abbrev pub stateWith : Settings → ℕ → State
-stateWith s k = record { settings = s; records = replicate 8 noRecord; count = k; calls = 0; notices = 0 }
+-- a state with no records, whose count is k and whose notice fill is n
+abbrev pub stateWith : Settings → ℕ → ℕ → State
+stateWith s k n = record { settings = s; records = replicate 8 noRecord; count = k; calls = 0; notices = n }
 
 -- what reading the tape comes to, in a text that is in order
-unfoldable pub openedTape : List ℕ → List ℕ → Judged Settings
-openedTape text tape = read (readOpening text tape) (λ o. pragmasChecked text (settingsOf text (optionsOf text o)))
+unfoldable pub openedTape : List ℕ → List ℕ → ℕ → Judged Settings
+openedTape text tape room = read (readOpening text tape) (λ o. judgeOptions text room (optionsOf text o))
+
+-- the spans of both pragmas are in order
+pub record Borne (text : List ℕ) (o : Options) : Type 0 where
+  pub pragma : borneOut text (o .pragma) ≡ true
+  pub frag : borneOut text (o .«pragma_frag») ≡ true
+
+-- the part of a pragma that fails is a span
+unfoldable pub Spanned : PragmaRead → Type 0
+Spanned pragma.Absent = 0 ≤ 65535
+Spanned (pragma.Valid f) = 0 ≤ 65535
+Spanned (pragma.Invalid i n) = i + n ≤ 65535
+
+-- the answer with the state, and the notice target after, are those of an outcome
+pub record Opened (o : OpeningOutcome) (stepped : Stepped) (notices : List ℕ) : Type 0 where
+  pub answered : stepped ≡ o .stepped
+  pub noticed : notices ≡ o .notices

@@ -1,12 +1,13 @@
 // What `JsxImpl::new` decides (jsx_impl.rs).
 ghost use mathlib.Core.Path.{_≡_};
-ghost use Rattle.definitions.specs.Opening.{isAbsent, modeOf, settingsOf};
+ghost use Rattle.definitions.specs.Opening.{isAbsent, modeOf, settingsWith};
 use definitions::options::Flags;
 use definitions::options::Mode;
 use definitions::options::Optional;
 use definitions::options::Options;
+use definitions::options::PragmaRead;
 use definitions::options::Settings;
-use pragma::form_under;
+use pragma::form_by;
 
 fn is_absent(o: Optional) -> bool
     ensures { λ r. ⌜ r ≡ isAbsent o ⌝ }
@@ -17,7 +18,7 @@ fn is_absent(o: Optional) -> bool
     }
 }
 
-fn mode_of(f: Flags) -> Mode
+pub fn mode_of(f: Flags) -> Mode
     ensures { λ r. ⌜ r ≡ modeOf f ⌝ }
 {
     if f.classic {
@@ -29,21 +30,20 @@ fn mode_of(f: Flags) -> Mode
     Mode::Script
 }
 
-pub fn new(text: &[u8], options: Options) -> Settings
-    ensures { λ r. ⌜ r ≡ settingsOf (now (text .entry)) options ⌝ }
+// The settings, with both pragmas as they were read under the mode of these options.
+pub fn new(options: Options, read: PragmaRead, read_frag: PragmaRead) -> Settings
+    ensures { λ r. ⌜ r ≡ settingsWith options read «read_frag» ⌝ }
 {
     let flags = options.flags;
     let pragma = options.pragma;
-    let pragma_frag = options.pragma_frag;
     let import_source = options.import_source;
-    let mode = mode_of(flags);
     // only where all that concerns it is left at its default, or where it is asked for
     let pure = flags.pure | (is_absent(import_source) & is_absent(pragma));
     Settings {
         options: options,
         pure: pure,
-        mode: mode,
-        pragma: form_under(mode, text, pragma),
-        pragma_frag: form_under(mode, text, pragma_frag),
+        mode: mode_of(flags),
+        pragma: form_by(read),
+        pragma_frag: form_by(read_frag),
     }
 }

@@ -1,14 +1,19 @@
 // Opening a job. Opening tape: 61 flags u16; then at most one each, in this order, of 62 pragma S, 63 pragmaFrag S, 64 importSource S;
 // then any number of 60 comment S.
 ghost use mathlib.Core.Path.{_≡_};
-ghost use Prim.Native.Nat.{_≤_};
+ghost use Prim.Native.Nat.{_≤_, _^_};
 ghost use lib.ListN.{length};
 ghost use Rattle.commands.specs.Opening.{optionCommand};
+ghost use Rattle.text.specs.declared.bytes.Found.the-variants.{Nothing};
 ghost use Rattle.text.specs.Spans.{boundsOf};
-ghost use Rattle.definitions.specs.Judging as judging;
-ghost use Rattle.definitions.specs.Opening.{bare, readOpening, pragmasChecked};
-ghost use Rattle.definitions.specs.Entries.{openedBy, opened};
-ghost use Rattle.settings.specs.Tapes.{optionsBefore, withGiven, spannedBy, nextBy, judgedOptions, judgedBy, behindFlags, stateWith, openedTape};
+ghost use Rattle.text.specs.Utf8.{firstIll};
+ghost use Rattle.tape.specs.Targets.{Wrote};
+ghost use Rattle.definitions.specs.declared.state.Answer.the-variants as answer;
+ghost use Rattle.definitions.specs.Calls.{noticeBytes};
+ghost use Rattle.definitions.specs.Opening.{bare, readOpening, settingsOf, pragmaNotice, noticesFitted, judgeOptions};
+ghost use Rattle.definitions.specs.Entries.{noJob, openedBy, opened};
+ghost use Rattle.settings.specs.Tapes.{optionsBefore, withGiven, spannedBy, nextBy, judgedOptions, judgedBy, behindFlags, stateWith, openedTape, Borne, Spanned, Opened};
+use crate::jsx_impl::mode_of;
 use crate::jsx_impl::new;
 use commands::codes;
 use commands::opening::FlagsCommand;
@@ -19,7 +24,9 @@ use commands::sizes;
 use comments::update_options_with_comments;
 use definitions::options::Optional;
 use definitions::options::Options;
+use definitions::options::PragmaRead;
 use definitions::options::Settings;
+use definitions::record_tape::INVALID_PRAGMA;
 use definitions::records::Import;
 use definitions::records::Record;
 use definitions::state::Answer;
@@ -28,9 +35,12 @@ use definitions::state::Stepped;
 use option_values::conform;
 use option_values::flags_of;
 use pragma::over_ascii_under;
+use pragma::pragma_under;
 use tape::limits::MAX_LENGTH;
 use tape::refusal::Fault;
 use tape::refusal::Refusal;
+use tape::target::put;
+use tape::target::put_span;
 use text::bytes::Found;
 use text::spans::Bounds;
 use text::spans::Span;
@@ -160,8 +170,8 @@ fn read_opening(text: &[u8], tape: &[u8]) -> OpeningRead
 
 // ---- the answer
 
-fn no_records(settings: Settings, count: usize) -> State
-    ensures { λ r. ⌜ r ≡ stateWith settings count ⌝ }
+fn no_records(settings: Settings, count: usize, notices: usize) -> State
+    ensures { λ r. ⌜ r ≡ stateWith settings count notices ⌝ }
 {
     State {
         settings: settings,
@@ -171,64 +181,120 @@ fn no_records(settings: Settings, count: usize) -> State
         }; 8],
         count: count,
         calls: 0,
-        notices: 0,
+        notices: notices,
     }
 }
 
 fn refused(why: Refusal) -> Stepped
-    ensures { λ r. ⌜ r ≡ openedBy (judging.refused why) ⌝ }
+    ensures { λ r. ⌜ r ≡ record { answer = answer.Refused why; state = noJob } ⌝ }
 {
-    let settings = new(b"", bare_options(0));
+    let settings = new(bare_options(0), PragmaRead::Absent, PragmaRead::Absent);
     // over 8 records: every entry refuses this state as forged
-    let state = no_records(settings, 9);
+    let state = no_records(settings, 9, 0);
     Stepped {
         answer: Answer::Refused(why),
         state: state,
     }
 }
 
-fn accepted(settings: Settings) -> Stepped
-    ensures { λ r. ⌜ r ≡ openedBy (judging.accepted settings) ⌝ }
+fn accepted(settings: Settings, notices: usize) -> Stepped
+    ensures { λ r. ⌜ r ≡ record { answer = answer.Accepted; state = stateWith settings 0 notices } ⌝ }
 {
-    let state = no_records(settings, 0);
+    let state = no_records(settings, 0, notices);
     Stepped {
         answer: Answer::Accepted,
         state: state,
     }
 }
 
-fn open_settings(text: &[u8], settings: Settings) -> Stepped
-    ensures { λ r. ⌜ r ≡ openedBy (pragmasChecked (now (text .entry)) settings) ⌝ }
+// How many bytes a pragma's notice takes.
+fn notice_size(read: PragmaRead) -> usize
+    ensures { λ r. ⌜ r ≡ length (noticeBytes (pragmaNotice read)) ⌝ }
 {
-    let options = settings.options;
+    match read {
+        PragmaRead::Absent => 0,
+        PragmaRead::Valid(_) => 0,
+        PragmaRead::Invalid(_, _) => sizes::WITH_SPAN,
+    }
+}
+
+fn put_notice(notices: &mut [u8], at: usize, read: PragmaRead) -> usize
+    requires { ⌜ at ≤ 2 ^ 63 ⌝ }
+    requires { ⌜ Spanned read ⌝ }
+    ensures { λ r. ⌜ Wrote (now (notices .entry)) (now (notices .exit)) at r (noticeBytes (pragmaNotice read)) ⌝ }
+{
+    match read {
+        PragmaRead::Absent => at,
+        PragmaRead::Valid(_) => at,
+        PragmaRead::Invalid(start, len) => {
+            let span = Span {
+                start: start as u16,
+                len: len as u16,
+            };
+            let behind = put(notices, at, INVALID_PRAGMA);
+            put_span(notices, behind, span)
+        }
+    }
+}
+
+// A job with these options, none of whose pragmas has a byte over 7F: its notices are written where they fit.
+fn open_noticed(text: &[u8], options: Options, notices: &mut [u8]) -> Stepped
+    requires { ⌜ length (now text) ≤ 65535 ⌝ }
+    requires { ⌜ Borne (now text) options ⌝ }
+    ensures { λ r. ⌜ Opened (openedBy (now (text .entry)) (now (notices .entry)) (noticesFitted (now (text .entry)) (length (now (notices .entry))) (settingsOf (now (text .entry)) options))) r (now (notices .exit)) ⌝ }
+{
+    let flags = options.flags;
     let pragma = options.pragma;
     let pragma_frag = options.pragma_frag;
-    let mode = settings.mode;
+    let mode = mode_of(flags);
+    let read = pragma_under(mode, text, pragma);
+    let read_frag = pragma_under(mode, text, pragma_frag);
+    let size = notice_size(read) + notice_size(read_frag);
+    if notices.len() < size {
+        return refused(Refusal::NoticeSpace(size));
+    }
+    let behind = put_notice(notices, 0, read);
+    put_notice(notices, behind, read_frag);
+    accepted(new(options, read, read_frag), size)
+}
+
+fn open_options(text: &[u8], options: Options, notices: &mut [u8]) -> Stepped
+    requires { ⌜ length (now text) ≤ 65535 ⌝ }
+    requires { ⌜ Borne (now text) options ⌝ }
+    ensures { λ r. ⌜ Opened (openedBy (now (text .entry)) (now (notices .entry)) (judgeOptions (now (text .entry)) (length (now (notices .entry))) options)) r (now (notices .exit)) ⌝ }
+{
+    let flags = options.flags;
+    let pragma = options.pragma;
+    let pragma_frag = options.pragma_frag;
+    let mode = mode_of(flags);
     match over_ascii_under(mode, text, pragma) {
         Found::At(place) => refused(Refusal::PragmaByte(place)),
         Found::Nothing => match over_ascii_under(mode, text, pragma_frag) {
             Found::At(place) => refused(Refusal::PragmaByte(place)),
-            Found::Nothing => accepted(settings),
+            Found::Nothing => open_noticed(text, options, notices),
         },
     }
 }
 
 // A text that is not too long and is UTF-8.
-fn open_text(text: &[u8], tape: &[u8]) -> Stepped
+fn open_text(text: &[u8], tape: &[u8], notices: &mut [u8]) -> Stepped
     requires { ⌜ length (now text) ≤ 65535 ⌝ }
-    ensures { λ r. ⌜ r ≡ openedBy (openedTape (now (text .entry)) (now (tape .entry))) ⌝ }
+    requires { ⌜ firstIll (now text) ≡ Nothing ⌝ }
+    ensures { λ r. ⌜ Opened (openedBy (now (text .entry)) (now (notices .entry)) (openedTape (now (text .entry)) (now (tape .entry)) (length (now (notices .entry))))) r (now (notices .exit)) ⌝ }
 {
     match read_opening(text, tape) {
         OpeningRead::Stop(fault, place) => refused(Refusal::Tape(fault, place)),
         OpeningRead::Done(options) => {
-            let settings = new(text, update_options_with_comments(text, options, tape));
-            open_settings(text, settings)
+            let commented = update_options_with_comments(text, options, tape);
+            open_options(text, commented, notices)
         }
     }
 }
 
-pub fn open_job(text: &[u8], tape: &[u8]) -> Stepped
-    ensures { λ r. ⌜ r ≡ opened (now (text .entry)) (now (tape .entry)) ⌝ }
+// Opens a job. What its pragmas tell is written from the start of the notice target, and the state's notice fill begins behind it.
+pub fn open_job(text: &[u8], tape: &[u8], notices: &mut [u8]) -> Stepped
+    ensures { λ r. ⌜ r ≡ opened (now (text .entry)) (now (tape .entry)) (now (notices .entry)) .stepped ⌝ }
+    ensures { λ _. ⌜ now (notices .exit) ≡ opened (now (text .entry)) (now (tape .entry)) (now (notices .entry)) .notices ⌝ }
 {
     if MAX_LENGTH < text.len() {
         return refused(Refusal::TooLong);
@@ -238,6 +304,6 @@ pub fn open_job(text: &[u8], tape: &[u8]) -> Stepped
     }
     match first_ill_formed(text) {
         Found::At(place) => refused(Refusal::NotUtf8(place)),
-        Found::Nothing => open_text(text, tape),
+        Found::Nothing => open_text(text, tape, notices),
     }
 }

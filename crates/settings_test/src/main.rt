@@ -4,7 +4,8 @@
 //     pragma "h"    fragment "f"    importSource "preact"    comment " @jsx h"
 //
 // which are the tape's commands, in this order; the first letter of a word says which one. In quotes stand bytes and the escapes
-// \n \r \t \v \f \" \\ and \xHH. A line that begins with a number sign says where the jobs behind it come from.
+// \n \r \t \v \f \" \\ and \xHH. `room 4` at the end is the size of the notice target, one hexadecimal digit. A line that begins with a number sign says
+// where the jobs behind it come from. Behind them come jobs that are made by rule: long comments, and every pragma of up to four parts.
 ghost use Prim.Native.Nat.{_≤_, _<_};
 ghost use lib.ListN.{length};
 use commands::codes;
@@ -139,6 +140,23 @@ fn read_quoted(line: &[u8], from: usize, text: &mut [u8], to: usize) -> Places
     Places { line: i, text: at }
 }
 
+// The size of the notice target, which the end of a line may say: room for all that an opening tells where it doesn't.
+fn room_of(line: &[u8]) -> usize
+    ensures { λ r. ⌜ r ≤ 16 ⌝ }
+{
+    if line.len() < 2 {
+        return 16;
+    }
+    let last = line.len() - 1;
+    if line[last] == b'"' {
+        return 16;
+    }
+    if line[last - 1] != b' ' {
+        return 16;
+    }
+    digit(line[last]) as usize
+}
+
 // How much of the text and of the tape a job takes.
 struct Job {
     text: usize,
@@ -258,16 +276,56 @@ fn say_settings(text: &[u8], s: Settings) {
     say_value(b"; importSource", text, import_source);
     say_value(b"; TypeScript pragma", text, ts_pragma);
     say_value(b"; TypeScript fragment", text, ts_pragma_frag);
-    say(b"\n");
 }
 
-fn open(text: &[u8], tape: &[u8]) {
+fn wide(b: u8) -> u64 {
+    b as u64
+}
+
+fn say_byte(b: u8) {
+    say(b" ");
+    io::print_hex(STDOUT_FILENO, wide(b), 2);
+}
+
+fn say_bytes(bytes: &[u8]) {
+    let mut i = 0;
+    while i < bytes.len() {
+        say_byte(bytes[i]);
+        i += 1;
+    }
+}
+
+// The notices, where there are any.
+fn say_notices(notices: &[u8], fill: usize) {
+    if fill == 0 {
+        return;
+    }
+    say(b"; notices");
+    if fill <= notices.len() {
+        say_bytes(&notices[0..fill]);
+    }
+}
+
+// Whether each byte from this place on is what it was at first.
+fn is_left(target: &[u8], from: usize) -> bool {
+    let mut i = from;
+    while i < target.len() {
+        if target[i] != 0xee {
+            return false;
+        }
+        i += 1;
+    }
+    true
+}
+
+// Each byte of the notice target is EE at first.
+fn open_over(text: &[u8], tape: &[u8], notices: &mut [u8]) {
     say(b"    ");
-    let opened = open_job(text, tape);
+    let opened = open_job(text, tape, notices);
     let answer = opened.answer;
+    let state = opened.state;
     match answer {
         Answer::Accepted => {
-            let state = opened.state;
             let settings = state.settings;
             say_settings(text, settings);
         }
@@ -276,9 +334,16 @@ fn open(text: &[u8], tape: &[u8]) {
             io::print_decimal(STDOUT_FILENO, number(why) as u64);
             say(b" ");
             io::print_decimal(STDOUT_FILENO, figure(why) as u64);
-            say(b"\n");
         }
     }
+    say_notices(notices, state.notices);
+    say_if(!is_left(notices, state.notices), b"; more was written");
+    say(b"\n");
+}
+
+fn open(text: &[u8], tape: &[u8]) {
+    let mut notices = [0xee; 16];
+    open_over(text, tape, &mut notices);
 }
 
 // ---- the jobs
@@ -295,7 +360,13 @@ fn run_line(line: &[u8], text: &mut [u8], tape: &mut [u8]) {
     let job = read_job(line, text, tape);
     let text_end = job.text;
     let tape_end = job.tape;
-    open(&text[0..text_end], &tape[0..tape_end]);
+    let mut notices = [0xee; 16];
+    let room = room_of(line);
+    open_over(
+        &text[0..text_end],
+        &tape[0..tape_end],
+        &mut notices[0..room],
+    );
 }
 
 // The place of the next line feed, or the end.
@@ -340,6 +411,97 @@ fn run_long(pairs: usize, even: u8, odd: u8, rest: &[u8], text: &mut [u8], tape:
     open(&text[0..end], &tape[0..tape_end]);
 }
 
+// ---- pragmas by rule
+
+fn put_word(text: &mut [u8], at: usize, word: &[u8]) -> usize
+    requires { ⌜ at ≤ length (now text) ⌝ }
+    ensures { λ r. ⌜ r ≤ length (now (text .exit)) ⌝ }
+{
+    let places = read_quoted(word, 0, text, at);
+    places.text
+}
+
+// One of seven parts, the last of which is empty.
+fn put_part(text: &mut [u8], at: usize, part: usize) -> usize
+    requires { ⌜ at ≤ length (now text) ⌝ }
+    ensures { λ r. ⌜ r ≤ length (now (text .exit)) ⌝ }
+{
+    match part {
+        0 => put_word(text, at, b"this"),
+        1 => put_word(text, at, b"import"),
+        2 => put_word(text, at, b"meta"),
+        3 => put_word(text, at, b"h"),
+        4 => put_word(text, at, b"class"),
+        5 => put_word(text, at, b"1x"),
+        _ => at,
+    }
+}
+
+// A dot and one more part for a number from 1 on, by its remainder; nothing for 0.
+fn put_more(text: &mut [u8], at: usize, parts: usize) -> usize
+    requires { ⌜ at ≤ length (now text) ⌝ }
+    ensures { λ r. ⌜ r ≤ length (now (text .exit)) ⌝ }
+{
+    if parts == 0 {
+        return at;
+    }
+    let dotted = put(text, at, b'.');
+    put_part(text, dotted, (parts - 1) % 7)
+}
+
+// The number of the parts behind that one.
+fn behind(parts: usize) -> usize {
+    if parts == 0 {
+        return 0;
+    }
+    (parts - 1) / 7
+}
+
+// The pragma with this number: below 2,800 each pragma of one to four parts has one, in which the first part counts for the least.
+fn put_pragma(text: &mut [u8], at: usize, parts: usize) -> usize
+    requires { ⌜ at ≤ length (now text) ⌝ }
+    ensures { λ r. ⌜ r ≤ length (now (text .exit)) ⌝ }
+{
+    let second = parts / 7;
+    let third = behind(second);
+    let a = put_part(text, at, parts % 7);
+    let b = put_more(text, a, second);
+    let c = put_more(text, b, third);
+    put_more(text, c, behind(third))
+}
+
+// The text, and how its pragma was read: its form, or the notice of the part that fails.
+fn show_pragma(text: &[u8], tape: &[u8]) {
+    let mut notices = [0xee; 16];
+    let opened = open_job(text, tape, &mut notices);
+    let state = opened.state;
+    let settings = state.settings;
+    let form = settings.pragma;
+    say(text);
+    say_form(form);
+    say_notices(&notices, state.notices);
+    say(b"\n");
+}
+
+// A classic job with this pragma, behind one more byte of the text.
+fn run_pragma(parts: usize, text: &mut [u8], tape: &mut [u8]) {
+    let start = put(text, 0, b'@');
+    let end = put_pragma(text, start, parts);
+    let command = put(tape, 0, codes::FLAGS);
+    let low = put(tape, command, 0x08);
+    let high = put(tape, low, 0x00);
+    let tape_end = put_command(tape, high, codes::PRAGMA, start, end);
+    show_pragma(&text[0..end], &tape[0..tape_end]);
+}
+
+fn run_pragmas(text: &mut [u8], tape: &mut [u8]) {
+    let mut parts = 0;
+    while parts < 2800 {
+        run_pragma(parts, text, tape);
+        parts += 1;
+    }
+}
+
 fn main() {
     let mut input = io::large_buffer();
     let n = io::read_full(0, &mut input);
@@ -354,4 +516,8 @@ fn main() {
     say(b"# 65,535 bytes, and one more\n");
     run_long(32763, b'@', b'@', b" @jsx h.g", &mut text, &mut tape);
     run_long(32763, b'@', b'@', b" @jsx h.gg", &mut text, &mut tape);
+    say(
+        b"# ---- behind an @, every pragma of up to four parts out of this, import, meta, h, class, 1x and an empty one\n",
+    );
+    run_pragmas(&mut text, &mut tape);
 }

@@ -17,6 +17,7 @@
 compile_error!("libjsxlib.a is compiled for x86-64 Linux");
 
 mod lists;
+mod notice;
 mod raw;
 mod refusal;
 mod resolved;
@@ -25,6 +26,7 @@ mod target;
 mod workspace;
 
 use lists::{behind, put_list, roots_in, too_long};
+pub use notice::Notice;
 pub use refusal::{JobRefusal, Refusal, RootRefusal};
 use resolved::SETTINGS_SIZE;
 pub use resolved::{Mode, PragmaForm, PragmaRoot, ResolvedSettings};
@@ -39,7 +41,10 @@ pub const STATE_SIZE: usize = 102;
 /// thousands of times its own size; without overlaps it takes at most four bytes for each of its tape and six for each of the text.
 pub const DEFAULT_LIMIT: usize = 64 << 20;
 
-/// A job over a text: its state, and what its roots gave so far.
+// No opening tells more: two notices of five bytes.
+const OPENING_NOTICES: usize = 10;
+
+/// A job over a text: its state, and what its opening and its roots gave so far.
 #[derive(Clone, Debug)]
 pub struct Job<'t> {
     text: &'t [u8],
@@ -49,7 +54,7 @@ pub struct Job<'t> {
     limit: usize,
 }
 
-/// What a root, or several in turn, added.
+/// What a root, or several in turn, added; the opening's notices are not among these.
 #[derive(Clone, Copy, Debug, PartialEq, Eq)]
 pub struct Lowered<'j> {
     pub calls: &'j [u8],
@@ -57,30 +62,34 @@ pub struct Lowered<'j> {
 }
 
 impl<'t> Job<'t> {
-    /// Opens a job over a text by an opening tape, as `Settings::tape` makes one.
+    /// Opens a job over a text by an opening tape, as `Settings::tape` makes one. Where a pragma of a classic job is not valid the opening tells so, and
+    /// `notices` has that from the beginning on (`Notice::InvalidPragma`).
     pub fn open(text: &'t [u8], tape: &[u8]) -> Result<Job<'t>, Refusal> {
-        let mut state = [0; STATE_SIZE];
-        raw::open(text, tape, &mut state)?;
-        Ok(Job::over(text, state, Target::default(), Target::default()))
+        Job::open_in(text, tape, (Vec::new(), Vec::new()))
     }
 
     fn over(text: &'t [u8], state: [u8; STATE_SIZE], calls: Target, notices: Target) -> Job<'t> {
         Job { text, state, calls, notices, limit: DEFAULT_LIMIT }
     }
 
-    /// Sets how many bytes the calls of all roots may take, and as many their notices. A root that would go beyond it is refused by `Refusal::Limit`.
+    /// Sets how many bytes the calls of all roots may take, and as many the notices of the opening and of all roots. A root that would go beyond it is refused by
+    /// `Refusal::Limit`. The opening's notices, ten bytes at the most, stand already and stay.
     pub fn set_limit(&mut self, bytes: usize) {
         self.limit = bytes;
     }
 
-    /// The same with memory that another job gave back (`into_buffers`), which is neither cleared nor shown.
+    /// The same with memory that another job gave back (`into_buffers`), which is neither cleared nor shown. The opening's notices go to the front of that for
+    /// notices, which grows where it is shorter.
     pub fn open_in(
         text: &'t [u8],
         tape: &[u8],
         (calls, notices): (Vec<u8>, Vec<u8>),
     ) -> Result<Job<'t>, Refusal> {
-        let job = Job::open(text, tape)?;
-        Ok(Job { calls: Target::over(calls), notices: Target::over(notices), ..job })
+        let (mut state, mut told) = ([0; STATE_SIZE], [0; OPENING_NOTICES]);
+        raw::open(text, tape, &mut state, &mut told)?;
+        let (_, filled) = raw::fills(&state)?;
+        let (calls, notices) = (Target::over(calls), Target::beginning(notices, &told[..filled]));
+        Ok(Job::over(text, state, calls, notices))
     }
 
     /// A job taken up again, from the bytes of its state and from its calls and notices so far. Refused as forged are, here, bytes that are no state's and
@@ -192,12 +201,12 @@ impl<'t> Job<'t> {
         self.calls.written()
     }
 
-    /// The notices of all roots so far.
+    /// The notices of the opening, and behind them those of all roots so far. `Notice::read_all` reads them.
     pub fn notices(&self) -> &[u8] {
         self.notices.written()
     }
 
-    /// The calls and the notices of all roots.
+    /// The calls of all roots, and the notices of the opening and of all roots.
     pub fn into_tapes(self) -> (Vec<u8>, Vec<u8>) {
         (self.calls.into_written(), self.notices.into_written())
     }

@@ -9,6 +9,8 @@ extern "C" {
         job_len: usize,
         state: *mut u8,
         state_len: usize,
+        notices: *mut u8,
+        notices_len: usize,
         figure: *mut usize,
     ) -> u8;
     fn jsx_root(
@@ -92,7 +94,7 @@ extern "C" {
 // In each call the lengths are those of the slices, a slice's pointer is never null, and no two borrows overlap where one is exclusive: that
 // is what the entries ask of their caller.
 
-pub fn open(text: &[u8], job: &[u8], state: &mut [u8]) -> Result<(), Refusal> {
+pub fn open(text: &[u8], job: &[u8], state: &mut [u8], notices: &mut [u8]) -> Result<(), Refusal> {
     let mut figure = 0;
     let number = unsafe {
         jsx_open(
@@ -102,6 +104,8 @@ pub fn open(text: &[u8], job: &[u8], state: &mut [u8]) -> Result<(), Refusal> {
             job.len(),
             state.as_mut_ptr(),
             state.len(),
+            notices.as_mut_ptr(),
+            notices.len(),
             &mut figure,
         )
     };
@@ -277,4 +281,38 @@ pub fn job(
     };
     let answer = Refusal::told(number, run.figure);
     (run, answer)
+}
+
+#[cfg(test)]
+mod tests {
+    use super::*;
+
+    // The wrapper lends room enough, so that openings are refused for want of it only here: 10 before 11, and nothing is written.
+    #[test]
+    fn openings_without_room() {
+        let opened = |text: &[u8], state: usize, notices: usize| {
+            let (mut state, mut notices) = (vec![0xee; state], vec![0xee; notices]);
+            let job = [0x61, 8, 0, 0x62, 0, 0, 2, 0];
+            let answer = open(text, &job, &mut state, &mut notices);
+            let touched = state.iter().chain(&notices).any(|&byte| byte != 0xee);
+            (answer, touched, notices)
+        };
+        let space = Err(Refusal::Space { needed: STATE_SIZE });
+        for (text, state, notices, refusal) in [
+            (&b"1x"[..], STATE_SIZE, 4, Err(Refusal::NoticeSpace { needed: 5 })),
+            (b"1x", STATE_SIZE - 1, 4, space),
+            (b"1x", STATE_SIZE - 1, 5, space),
+            (b"hx", 0, 0, space),
+            ("é".as_bytes(), 0, 0, Err(Refusal::PragmaByte { at: 0 })),
+            ("é".as_bytes(), STATE_SIZE, 0, Err(Refusal::PragmaByte { at: 0 })),
+            (b"1", 0, 0, Err(Refusal::SpanOutside { at: 3 })),
+        ] {
+            let (answer, touched, _) = opened(text, state, notices);
+            assert_eq!((answer, touched), (refusal, false), "{text:?} {state} {notices}");
+        }
+        // exactly full, and none to write
+        assert_eq!(opened(b"1x", STATE_SIZE, 5), (Ok(()), true, vec![0xc2, 0, 0, 2, 0]));
+        assert_eq!(opened(b"1x", STATE_SIZE + 1, 6), (Ok(()), true, vec![0xc2, 0, 0, 2, 0, 0xee]));
+        assert_eq!(opened(b"hx", STATE_SIZE, 0), (Ok(()), true, vec![]));
+    }
 }

@@ -21,6 +21,15 @@ impl Target {
         Target { bytes, filled: 0 }
     }
 
+    // The same memory with these bytes at its front; it grows where it is shorter.
+    pub fn beginning(mut bytes: Vec<u8>, front: &[u8]) -> Target {
+        if bytes.len() < front.len() {
+            bytes.resize(front.len(), 0);
+        }
+        bytes[..front.len()].copy_from_slice(front);
+        Target { bytes, filled: front.len() }
+    }
+
     pub fn filled(bytes: Vec<u8>) -> Target {
         Target { filled: bytes.len(), bytes }
     }

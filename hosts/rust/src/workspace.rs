@@ -1,6 +1,6 @@
 use crate::lists::{put_list, roots_in, too_long};
 use crate::target::Target;
-use crate::{raw, JobRefusal, Refusal, RootRefusal, DEFAULT_LIMIT};
+use crate::{raw, JobRefusal, Refusal, RootRefusal, DEFAULT_LIMIT, OPENING_NOTICES};
 use std::fmt;
 
 // No record tape is longer: two groups, and eight records of three bytes.
@@ -28,7 +28,7 @@ impl fmt::Debug for Workspace {
     }
 }
 
-/// What a whole job gave.
+/// What a whole job gave: the calls of its roots, and the notices of its opening and of its roots.
 #[derive(Clone, Copy, Debug)]
 pub struct Output<'w> {
     pub calls: &'w [u8],
@@ -44,7 +44,8 @@ impl Output<'_> {
 }
 
 impl Workspace {
-    /// Memory for jobs whose calls take at most so many bytes, and their notices as many. A job that would go beyond it is refused by `Refusal::Limit`.
+    /// Memory for jobs whose calls take at most so many bytes, and their notices as many. A job that would go beyond it is refused by `Refusal::Limit`: at a root, or
+    /// at its opening where the opening's own notices do.
     pub fn with_limit(bytes: usize) -> Workspace {
         let (calls, notices) = (Target::default(), Target::default());
         Workspace { list: Vec::new(), calls, notices, limit: bytes }
@@ -66,7 +67,7 @@ impl Workspace {
             let (run, answer) = raw::job(text, tape, &self.list, calls, notices, &mut records);
             let at = |index, refusal| JobRefusal::Root(RootRefusal { index, refusal });
             match (run.stage, answer) {
-                (0, Err(refusal)) => return Err(JobRefusal::Opening(refusal)),
+                (0, Err(refusal)) => self.grow(&run, refusal).map_err(JobRefusal::Opening)?,
                 (1, Err(refusal)) => {
                     self.grow(&run, refusal).map_err(|refusal| at(run.taken, refusal))?
                 }
@@ -90,10 +91,10 @@ impl Workspace {
         let (size, list) = (self.list.len(), &self.list);
         let bound = || roots_in(list).map(raw::call_room).sum();
         self.calls.make_room_for(size, text.len(), bound, self.limit);
-        let _ = self.notices.make_room(size, self.limit);
+        let _ = self.notices.make_room(OPENING_NOTICES + size, self.limit);
     }
 
-    // The room that a root asks for behind those before it, which are lowered again with it.
+    // The room that the opening asks for, or a root behind what was written before it, which is written again with it.
     fn grow(&mut self, run: &raw::JobRun, refusal: Refusal) -> Result<(), Refusal> {
         match refusal {
             Refusal::Space { needed } => self.calls.make_room(run.call_fill + needed, self.limit),

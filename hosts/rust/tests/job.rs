@@ -1,5 +1,5 @@
-// The specification's example, its refusals, and states that nobody made.
-use jsx_lowering::{Job, JobRefusal, Mode, PragmaForm, PragmaRoot};
+// The specification's example, its refusals, states that nobody made, and mistyped pragmas.
+use jsx_lowering::{Job, JobRefusal, Mode, Notice, PragmaForm, PragmaRoot};
 use jsx_lowering::{Refusal, RootRefusal, Settings, Span, Workspace};
 
 // <a/>, <b key/> and so on: an element at line 0, column 0, in a function
@@ -434,4 +434,165 @@ fn a_pragma_over_ascii() {
     let mut job = Job::resume("é".as_bytes(), &state, Vec::new(), Vec::new()).unwrap();
     assert_eq!(job.lower_roots(&NONE).unwrap_err().refusal, Refusal::Forged);
     assert_eq!(job.records().unwrap_err(), Refusal::Forged);
+}
+
+// ---- mistyped pragmas
+
+const MISTYPED: &[u8] = b"h..xkey1x";
+// what is told of its h..x, of its 1x, and of a key without a value
+const TOLD: [u8; 5] = [0xc2, 2, 0, 0, 0];
+const TOLD_FRAG: [u8; 5] = [0xc2, 7, 0, 2, 0];
+const KEY: [u8; 5] = [0xc0, 4, 0, 3, 0];
+
+// the pragma h..x, and the fragment pragma 1x
+fn classic() -> Settings {
+    Settings { classic: true, pragma: span(0, 4), pragma_frag: span(7, 2), ..Settings::default() }
+}
+
+// <this key/>
+fn keyed() -> Vec<u8> {
+    root(&[0x22, 0x30, 4, 0, 3, 0, 0x40, 0x1e, 0x1f])
+}
+
+#[test]
+fn an_opening_that_tells() {
+    let tape = Settings { pragma_frag: None, ..classic() }.tape();
+    let mut job = Job::open(MISTYPED, &tape).unwrap();
+    assert_eq!((job.calls(), job.notices()), (&[][..], &TOLD[..]));
+    assert_eq!(job.settings().unwrap().pragma.root, PragmaRoot::Default);
+    // the opening's notices come first, and are none of a root's
+    assert_eq!(job.lower_root(&keyed()).unwrap().notices, KEY);
+    assert_eq!(job.lower_roots(&[keyed(), keyed()]).unwrap().notices, [KEY, KEY].concat());
+    assert_eq!(job.notices(), [TOLD, KEY, KEY, KEY].concat());
+    let (calls, notices) = job.clone().into_tapes();
+    let mut again = Job::resume(MISTYPED, job.state(), calls, notices).unwrap();
+    assert_eq!(again.lower_root(&keyed()).unwrap(), job.lower_root(&keyed()).unwrap());
+    let opened = Job::open(MISTYPED, &tape).unwrap();
+    let told = Job::resume(MISTYPED, opened.state(), Vec::new(), Vec::new()).unwrap_err();
+    assert_eq!(told, Refusal::Forged);
+}
+
+// the pragma before the fragment pragma, over memory of any size, also one that they just fill
+#[test]
+fn openings_over_memory_used_before() {
+    for size in [0, 4, 5, 9, 10, 11, 100] {
+        let memory = (Vec::new(), vec![0xab; size]);
+        let mut job = Job::open_in(MISTYPED, &classic().tape(), memory).unwrap();
+        assert_eq!(job.notices(), [TOLD, TOLD_FRAG].concat());
+        assert!(!format!("{job:?}").contains("171"));
+        job.lower_root(&keyed()).unwrap();
+        assert_eq!(job.into_tapes().1, [TOLD, TOLD_FRAG, KEY].concat());
+    }
+}
+
+// no pragma is in force in an automatic job, and none that a comment overrides
+#[test]
+fn openings_that_tell_nothing() {
+    let told = |text: &[u8], settings: Settings| {
+        Job::open(text, &settings.tape()).unwrap().notices().to_vec()
+    };
+    assert_eq!(told(MISTYPED, Settings { classic: false, ..classic() }), []);
+    assert_eq!(told(MISTYPED, Settings { pragma: None, pragma_frag: None, ..classic() }), []);
+    assert_eq!(
+        told(b"h.class", Settings { pragma: span(0, 7), pragma_frag: None, ..classic() }),
+        []
+    );
+    let comment = Span { start: 4, len: 8 };
+    let settings =
+        Settings { jsx_plugin: true, pragma_frag: None, comments: vec![comment], ..classic() };
+    assert_eq!(told(b"h..x@jsx h.h", settings.clone()), []);
+    assert_eq!(told(b"h..x@jsx h.-", settings), [0xc2, 11, 0, 1, 0]);
+}
+
+// a limit holds for the opening's notices too, but for one that is set behind it
+#[test]
+fn limits_of_what_an_opening_tells() {
+    let (tape, both) = (classic().tape(), [TOLD, TOLD_FRAG].concat());
+    for (limit, refusal) in [(10, None), (9, Some(9)), (5, Some(5)), (0, Some(0))] {
+        let refusal = refusal.map(|limit| Refusal::Limit { needed: 10, limit });
+        let mut workspace = Workspace::with_limit(limit);
+        let told = workspace.lower(MISTYPED, &tape, &NONE).map(|output| output.notices.to_vec());
+        assert_eq!(
+            told,
+            refusal.map_or(Ok(both.clone()), |refusal| Err(JobRefusal::Opening(refusal)))
+        );
+    }
+    let told = Workspace::with_limit(3).lower(MISTYPED, &tape, &NONE).unwrap_err();
+    assert_eq!(
+        told.to_string(),
+        "opening: 10 bytes more would go beyond the limit of 3 bytes that is set for this job's calls or notices"
+    );
+    let mut job = Job::open(MISTYPED, &tape).unwrap();
+    job.set_limit(10);
+    assert_eq!(job.lower_root(&root(&[0x22, 0x1e, 0x1f])).unwrap().calls.len(), 10);
+    assert_eq!(job.notices(), both);
+}
+
+// a whole job gives what its parts give, also with memory that was used before, and within a limit that its calls just reach
+#[test]
+fn a_whole_job_with_a_mistyped_pragma() {
+    let (tape, roots) = (classic().tape(), [keyed(), keyed()]);
+    let mut parts = Job::open(MISTYPED, &tape).unwrap();
+    parts.lower_roots(&roots).unwrap();
+    let mut workspace = Workspace::default();
+    for roots in [&roots[..], &roots[..1], &[]] {
+        workspace.lower(MISTYPED, &tape, roots).unwrap();
+    }
+    let whole = workspace.lower(MISTYPED, &tape, &roots).unwrap();
+    assert_eq!((whole.calls, whole.notices), (parts.calls(), parts.notices()));
+    assert_eq!(whole.notices, [TOLD, TOLD_FRAG, KEY, KEY].concat());
+    let limit = parts.calls().len();
+    let limited = Workspace::with_limit(limit)
+        .lower(MISTYPED, &tape, &roots)
+        .map(|output| output.notices.len());
+    assert_eq!(limited, Ok(parts.notices().len()));
+}
+
+#[test]
+fn notices_in_words() {
+    assert_eq!(
+        Notice::read_all(&[&TOLD[..], &KEY, &[0xc1, 0, 0, 1, 0, 4, 0, 3, 0]].concat()),
+        [
+            Notice::InvalidPragma(Span { start: 2, len: 0 }),
+            Notice::ValuelessKey(Span { start: 4, len: 3 }),
+            Notice::NamespacedTag(Span { start: 0, len: 1 }, Span { start: 4, len: 3 }),
+        ]
+    );
+    // what is no notice, or not whole, ends a tape
+    assert_eq!(Notice::read_all(&[&KEY[..], &TOLD[..4]].concat()).len(), 1);
+    assert_eq!(Notice::read_all(&[0x80, 0, 0, 0, 0]), []);
+    let words = |pragma: &str| {
+        let text = format!("/* {pragma}");
+        let settings =
+            Settings { classic: true, pragma: span(3, pragma.len() as u16), ..Settings::default() };
+        let job = Job::open(text.as_bytes(), &settings.tape()).unwrap();
+        let words = Notice::read_all(job.notices())[0].words(text.as_bytes());
+        let (why, what) = words.split_once("; ").unwrap();
+        assert_eq!(what, "React's own is used in its place: React.createElement, or React.Fragment if it is the pragma of fragments");
+        why.to_string()
+    };
+    let missing = "a pragma lacks a name at byte 5 of the text: it has a dot too many, or is empty";
+    assert_eq!(words("h..x"), missing);
+    assert_eq!(words(""), missing.replace('5', "3"));
+    assert_eq!(words("h.1x.2y"), "the part `1x` of a pragma at byte 5 of the text is not a name");
+    assert_eq!(
+        words("import.x"),
+        "a pragma begins with `import` at byte 3 of the text, which must be followed by `.meta`"
+    );
+    assert_eq!(
+        words("class.h"),
+        "a pragma begins with `class` at byte 3 of the text, which is a reserved word"
+    );
+    let [key, tag] = [
+        Notice::ValuelessKey(Span { start: 4, len: 3 }),
+        Notice::NamespacedTag(Span { start: 0, len: 1 }, Span { start: 4, len: 3 }),
+    ];
+    assert_eq!(
+        key.words(MISTYPED),
+        "the attribute `key` at byte 4 of the text has no value and counts as true; give it one, as in key={id}"
+    );
+    assert_eq!(
+        tag.words(MISTYPED),
+        "the tag `h:key` at byte 0 of the text has a namespace, which React doesn't know"
+    );
 }

@@ -1,7 +1,16 @@
-use borrow.Author.Needs.{needs}
+use denote.Ref.{now}
+use Prim.Native.Nat.{_-_}
+use native.Mathlib.Omega.{arith}
 use Rattle.jsxseries.proofs.Runs.{job-fresh}
+use borrow.Author.Needs.{needs}
 use Rattle.jsxseries.proofs.run_job.Statement.{statement}
 use Rattle.jsxseries.proofs.run_job.Tie as tie
+
+large-buffer-requires : tie.Need-large-buffer-requires
+large-buffer-requires c κs = search needs
+
+slice-aggregate-notices : tie.Need-slice-aggregate-notices
+slice-aggregate-notices c = search needs
 
 open-job-requires : tie.Need-open-job-requires
 open-job-requires c κs = search needs
@@ -17,10 +26,11 @@ enum-told c = search needs
 
 run-roots-requires : tie.Need-run-roots-requires
 run-roots-requires c κs =
-    let at-open-job = c .before .before .before .before in
-    let at-entry = at-open-job .before .before .before .before in
+    let at-open-job = c .before .before .before .before .before .before in
+    let at-entry = at-open-job .before .before .before .before .before .before .before in
     let a = at-entry .args in
-    job-fresh (a .job .now) (a .text .now) _ (at-open-job .open-job .ensures) (c .before .enum-told .given .1)
+    let f = job-fresh (now (a .job)) (now (a .text)) _ _ (at-open-job .open-job .ensures .0) in
+    (f .0, omega (arith, f .1, at-open-job .open-job .kept .1 .1 .0))
 
 same-length : tie.Need-same-length
 same-length c = search needs
@@ -38,6 +48,8 @@ pub run-job-spec : {M : Type 1} → statement M
 run-job-spec =
     tie.close
     (tie.spec
+    large-buffer-requires
+    slice-aggregate-notices
     open-job-requires
     enum-known-answer
     print-refusal-requires

@@ -25,6 +25,9 @@ const PATH: &str = "sheet.jsx";
 /// Room in the target for calls, and in that for notices if no other is given.
 const TARGET: usize = 65_536;
 
+/// The bytes that a pragma which fell back takes in the target for notices (C2 S). The Rust has no such notice, so none is written here.
+const FALLEN_BACK: usize = 5;
+
 /// How often the switch left something out.
 #[derive(Default)]
 struct Dropped {
@@ -171,14 +174,19 @@ impl<'f> Case<'f> {
         {
             return Ok("opening refused\n".into());
         }
-        let mut answer = format!("opening {}\n", settings(&options, &typescript, module));
+        let (settings, fallen_back) = settings(&options, &typescript, module);
+        let told = fallen_back * FALLEN_BACK;
+        if told > notice_room {
+            return Ok("opening refused\n".into());
+        }
+        let mut answer = format!("opening {settings}\n");
 
         let sources = Sources::new(&options);
         let writing = Context::new(&options, module, text, plain_fragments);
         let mut lowering = JsxImpl::new(options, None, &ctx.ast, SourceType { module });
         let mut roots = Vec::new();
         let mut lost = Dropped::default();
-        let (mut call_fill, mut notice_fill) = (0, 0);
+        let (mut call_fill, mut notice_fill) = (0, told);
         for (index, tape) in self.roots.iter().enumerate() {
             let mut nodes = Nodes::new();
             let root =
@@ -284,8 +292,9 @@ pub(crate) fn context<'a>(
     TraverseCtx::new(state, allocator)
 }
 
-/// The settings after comments. Pure and the pragmas' forms are private to `JsxImpl`: an empty fragment, lowered apart, shows them.
-fn settings(options: &JsxOptions, typescript: &TypeScriptOptions, module: bool) -> String {
+/// The settings after comments, and how many pragmas fell back to the default. Pure and the pragmas' forms are private to `JsxImpl`: an empty fragment, lowered apart,
+/// shows them.
+fn settings(options: &JsxOptions, typescript: &TypeScriptOptions, module: bool) -> (String, usize) {
     let allocator = Allocator::default();
     let mut ctx = context("", module, &allocator);
     ctx.scoping.scopes = vec![ScopeFlags::Other];
@@ -309,6 +318,12 @@ fn settings(options: &JsxOptions, typescript: &TypeScriptOptions, module: bool) 
             None => "unwritten".to_string(),
         }
     };
+    let forms = [form(0, &call.callee), form(1, tag)];
+    let fallen_back = [&options.pragma, &options.pragma_frag]
+        .iter()
+        .zip(&forms)
+        .filter(|(pragma, shown)| pragma.is_some() && *shown == "default.0")
+        .count();
     let runtime = match (options.runtime.is_classic(), module) {
         (true, _) => "classic",
         (false, true) => "module",
@@ -318,7 +333,7 @@ fn settings(options: &JsxOptions, typescript: &TypeScriptOptions, module: bool) 
         Cow::Borrowed(_) => "-".to_string(),
         Cow::Owned(text) => shown(Some(text)),
     };
-    format!(
+    let line = format!(
         "{runtime} plugin {} self {} source {} development {} throw {} pure {} pragma {} {} frag {} {} import {} typescript {} {}",
         u8::from(options.jsx_plugin),
         u8::from(options.jsx_self_plugin),
@@ -327,13 +342,14 @@ fn settings(options: &JsxOptions, typescript: &TypeScriptOptions, module: bool) 
         u8::from(options.throw_if_namespace),
         u8::from(call.pure),
         shown(options.pragma.as_deref()),
-        form(0, &call.callee),
+        forms[0],
         shown(options.pragma_frag.as_deref()),
-        form(1, tag),
+        forms[1],
         shown(options.import_source.as_deref()),
         owned(&typescript.jsx_pragma),
         owned(&typescript.jsx_pragma_frag),
-    )
+    );
+    (line, fallen_back)
 }
 
 /// The statements that the store makes, in its order, then the file name's.

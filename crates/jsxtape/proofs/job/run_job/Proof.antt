@@ -1,6 +1,8 @@
+use denote.Ref.{now}
 use Prim.Native.Nat.{_-_}
-use borrow.Author.Needs.{needs}
+use mathlib.Core.Path.{_∙_}
 use Rattle.jsxtape.proofs.Ending.{job-refused, job-fresh, job-opened}
+use borrow.Author.Needs.{needs}
 use Rattle.jsxtape.proofs.job.run_job.Statement.{statement}
 use Rattle.jsxtape.proofs.job.run_job.Tie as tie
 
@@ -16,21 +18,25 @@ enum-told c = search needs
 run-root-requires : tie.Need-run-root-requires
 run-root-requires c κs =
     let at-enum-told = c .before .before .before in
-    let at-open-job = at-enum-told .before .before .before in
-    let at-entry = at-open-job .before .before .before .before .before .before .before in (
-      job-fresh (at-entry .args .job .now) (at-entry .args .text .now) (at-entry .args .root .now) _ (at-open-job .open-job .ensures)
-          (at-enum-told .enum-told .given .1),
-      (at-entry .pre),
+    let at-open-job = at-enum-told .before .before .before .before .before in
+    let at-entry = at-open-job .before .before .before .before .before .before .before .before in
+    let a = at-entry .args in
+    let rooms = (at-entry .pre) in (
+      job-fresh (now (a .job)) (now (a .text)) (now (a .root)) (now (a .notices)) (at-entry .pre .notices-room) _ _
+          (at-open-job .open-job .ensures .0) (at-open-job .open-job .ensures .1) (at-enum-told .enum-told .given .1),
+      record { calls-room = rooms .calls-room; notices-room = at-open-job .open-job .kept .1 .1 .0 ∙ rooms .notices-room; records-room = rooms .records-room },
     )
-
-returns : tie.Need-returns
-returns c =
-    let at-open-job = c .before .before .before .before in
-    let at-entry = at-open-job .before .before .before .before .before .before .before in
-    job-refused (at-entry .args .job .now) (at-entry .args .text .now) (at-entry .args .root .now) _ (at-open-job .open-job .ensures) _ _ _ _ (c .before .answer .given .1)
 
 same-length : tie.Need-same-length
 same-length c = search needs
+
+returns : tie.Need-returns
+returns c =
+    let at-open-job = c .before .before .before .before .before .before in
+    let at-entry = at-open-job .before .before .before .before .before .before .before .before in
+    let a = at-entry .args in
+    job-refused (now (a .job)) (now (a .text)) (now (a .root)) (now (a .notices)) (at-entry .pre .notices-room) _ _
+    (at-open-job .open-job .ensures .0) (at-open-job .open-job .ensures .1) _ _ _ _ (c .before .answer .given .1)
 
 same-length-2 : tie.Need-same-length-2
 same-length-2 c = search needs
@@ -38,14 +44,19 @@ same-length-2 c = search needs
 same-length-3 : tie.Need-same-length-3
 same-length-3 c = search needs
 
+same-length-4 : tie.Need-same-length-4
+same-length-4 c = search needs
+
 returns-2 : tie.Need-returns-2
 returns-2 c =
     let at-run-root = c .before .before .before .before .before .before in
     let at-enum-told = at-run-root .before .before .before .before in
-    let at-open-job = at-enum-told .before .before .before in
-    let at-entry = at-open-job .before .before .before .before .before .before .before in
-    job-opened (at-entry .args .job .now) (at-entry .args .text .now) (at-entry .args .root .now) _ (at-open-job .open-job .ensures) _ _ _ _
-    (at-enum-told .enum-told .given .1) (at-run-root .run-root .ensures)
+    let at-open-job = at-enum-told .before .before .before .before .before in
+    let at-entry = at-open-job .before .before .before .before .before .before .before .before in
+    let a = at-entry .args in
+    job-opened (now (a .job)) (now (a .text)) (now (a .root)) (now (a .notices)) (at-entry .pre .notices-room) _ _
+    (at-open-job .open-job .ensures .0) (at-open-job .open-job .ensures .1) _ _ _ _ (at-enum-told .enum-told .given .1)
+    (at-run-root .run-root .ensures)
 
 pub run-job-spec : {M : Type 1} → statement M
 run-job-spec =
@@ -55,8 +66,9 @@ run-job-spec =
     enum-known-answer
     enum-told
     run-root-requires
-    returns
     same-length
+    returns
     same-length-2
     same-length-3
+    same-length-4
     returns-2)

@@ -47,7 +47,7 @@ returns c =
         ap (λ (w : World). w .calls) (sym e),
         (
           ap (λ (w : World). w .notices) (sym e),
-          λ job s h _. demand3 _ job s h _ _ _,
+          λ job s target h _. demand3 _ job s _ target h _,
         ),
       ),
     )

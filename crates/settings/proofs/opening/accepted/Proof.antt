@@ -1,5 +1,4 @@
 use borrow.Author.Needs.{needs}
-use Rattle.definitions.specs.Entries.{openedBy}
 use Rattle.settings.proofs.opening.accepted.Statement.{statement}
 use Rattle.settings.proofs.opening.accepted.Tie as tie
 
@@ -7,7 +6,6 @@ no-records-requires : tie.Need-no-records-requires
 no-records-requires c κs = search needs
 
 returns : tie.Need-returns
-unfolding openedBy
 returns c = rw (c .no-records .ensures)
 
 pub accepted-spec : {M : Type 1} → statement M

@@ -1,12 +1,9 @@
-use borrow.Author.Needs.{needs}
 use Rattle.definitions.specs.Options.{flagsOf, conform}
-use Rattle.definitions.specs.Entries.{openedBy}
+use Rattle.definitions.specs.Opening.{modeOf, pragmaUnder, settingsOf}
 use Rattle.settings.specs.Tapes.{optionsBefore}
+use borrow.Author.Needs.{needs}
 use Rattle.settings.proofs.opening.refused.Statement.{statement}
 use Rattle.settings.proofs.opening.refused.Tie as tie
-
-slice-aggregate-new : tie.Need-slice-aggregate-new
-slice-aggregate-new c = search needs
 
 bare-options-requires : tie.Need-bare-options-requires
 bare-options-requires c κs = search needs
@@ -18,10 +15,8 @@ no-records-requires : tie.Need-no-records-requires
 no-records-requires c κs = search needs
 
 returns : tie.Need-returns
-unfolding openedBy optionsBefore conform flagsOf
+unfolding settingsOf pragmaUnder modeOf optionsBefore conform flagsOf
 returns c = rw (c .no-records .ensures, c .before .new .ensures, c .before .before .bare-options .ensures)
 
 pub refused-spec : {M : Type 1} → statement M
-refused-spec =
-    tie.close
-    (tie.spec slice-aggregate-new bare-options-requires new-requires no-records-requires returns)
+refused-spec = tie.close (tie.spec bare-options-requires new-requires no-records-requires returns)

@@ -1,32 +1,33 @@
-use mathlib.Core.Path.{_≡_, sym, _∙_}
+use mathlib.Core.Path.{_≡_, refl, sym, _∙_}
 use Prim.Native.Nat.{_≤_, _+_, _-_}
 use native.Mathlib.Omega.{arith}
 use lib.ListN.{length, drop}
 use borrow.Author.Tests.{not-true, not-false}
 use borrow.Author.Needs.{needs}
-use Rattle.definitions.specs.Pragmas.{formWith}
+use Rattle.definitions.specs.Pragmas.{tailFrom}
 use Rattle.text.proofs.Lists.{told}
 use Rattle.pragma.specs.Parts.{partsBehind}
-use Rattle.pragma.proofs.Splitting.{part-inside, formFrom, form-start, form-end, name-bad, name-on}
-use Rattle.pragma.proofs.form_with.Statement.{statement}
-use Rattle.pragma.proofs.form_with.Tie as tie
+use Rattle.pragma.proofs.Splitting.{part-inside, tail-end, tail-bad, tail-on}
+use Rattle.pragma.proofs.read_tail.Statement.{statement}
+use Rattle.pragma.proofs.read_tail.Tie as tie
 
 abbrev Inv-loop : tie.InvT-loop
-Inv-loop root behind i₀ n₀ i n = (n ≤ i) × (formWith root (partsBehind behind) ≡ formFrom n root (partsBehind (drop i behind)))
+Inv-loop root pragma at i₀ n₀ i n =
+    (n ≤ i) × (tailFrom root 0 (at + 1) (partsBehind (drop at pragma)) ≡ tailFrom root n (i + 1) (partsBehind (drop i pragma)))
 
 abbrev μ-loop : tie.MeasureT-loop
-μ-loop root behind i₀ n₀ i n = length behind - i
+μ-loop root pragma at i₀ n₀ i n = length pragma - i
 
 inside : (c : tie.After-first-length Inv-loop μ-loop)
-    → c .before .before .before .loop .i + 1 + c .first-length .result ≤ length (c .before .before .before .before .before .args .behind .now)
+    → c .before .before .before .loop .i + 1 + c .first-length .result ≤ length (c .before .before .before .before .before .args .pragma .now)
 inside c =
     let at-loop-test = c .before .before in
     let at-entry = at-loop-test .before .before .before in
-    part-inside (at-entry .args .behind .now) _ _ (at-loop-test .loop-test .taken)
+    part-inside (at-entry .args .pragma .now) _ _ (at-loop-test .loop-test .taken)
     (c .first-length .ensures)
 
 loop-holds : tie.Need-loop-holds Inv-loop μ-loop
-loop-holds c = (omega arith, form-start _ _)
+loop-holds c = (omega arith, refl)
 
 add-start : tie.Need-add-start Inv-loop μ-loop
 add-start c = search needs
@@ -58,21 +59,19 @@ part-is-identifier-name-end c = inside c
 is-identifier-name-requires : tie.Need-is-identifier-name-requires Inv-loop μ-loop
 is-identifier-name-requires c κs = search needs
 
-default-form-requires : tie.Need-default-form-requires Inv-loop μ-loop
-default-form-requires c κs = search needs
+sub-t19 : tie.Need-sub-t19 Inv-loop μ-loop
+sub-t19 c = search needs
 
 returns : tie.Need-returns Inv-loop μ-loop
 returns c =
-    let at-is-identifier-name = c .before .before in
-    let at-first-length = at-is-identifier-name .before .before in
+    let at-first-length = c .before .before .before in
     let at-loop-test = at-first-length .before .before in
     let at-loop = at-loop-test .before in
     let at-entry = at-loop .before .before in
-    c .default-form .ensures
-    ∙ sym (at-loop .loop .inv .1
-    ∙ name-bad _ _ (at-entry .args .behind .now) _ _
+    sym (at-loop .loop .inv .1
+    ∙ tail-bad _ _ (at-entry .args .pragma .now) _ _
     (at-loop-test .loop-test .taken) (at-first-length .first-length .ensures)
-    (told (at-is-identifier-name .is-identifier-name .ensures) (not-true _ (c .before .if1 .taken))))
+    (told (c .before .is-identifier-name .ensures) (not-true _ (c .if1 .taken))))
 
 add-n : tie.Need-add-n Inv-loop μ-loop
 add-n c = omega (arith, inside (c .before .before .before))
@@ -88,16 +87,16 @@ loop-again c =
     let at-entry = at-loop .before .before in (
       omega arith,
       at-loop .loop .inv .1
-          ∙ name-on _ _ (at-entry .args .behind .now) _ _
+          ∙ tail-on _ _ (at-entry .args .pragma .now) _ _
           (at-loop-test .loop-test .taken) (at-first-length .first-length .ensures)
           (told (c .before .is-identifier-name .ensures) (not-false _ (c .if1 .left))),
     )
 
 returns-2 : tie.Need-returns-2 Inv-loop μ-loop
-returns-2 c = sym (c .before .loop .inv .1 ∙ form-end _ _ _ _ (c .loop-test .left))
+returns-2 c = sym (c .before .loop .inv .1 ∙ tail-end _ _ _ _ (c .loop-test .left))
 
-pub form-with-spec : {M : Type 1} → statement M
-form-with-spec =
+pub read-tail-spec : {M : Type 1} → statement M
+read-tail-spec =
     tie.close
     (tie.spec
     Inv-loop
@@ -113,7 +112,7 @@ form-with-spec =
     part-is-identifier-name-start
     part-is-identifier-name-end
     is-identifier-name-requires
-    default-form-requires
+    sub-t19
     returns
     add-n
     loop-less
