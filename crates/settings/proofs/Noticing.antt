@@ -1,6 +1,7 @@
 -- The notices of an opening, as they are counted and written.
 --     spanned-under     the part of a pragma that fails is a span
 --     wrote-part        the notice of such a part, written
+--     found-under       a search for a byte over 7F under the options' mode
 --     unfit, fit        an opening whose notices have no room, and one whose notices were written
 -- Assumes nothing.
 use mathlib.Core.Path.{_≡_, refl, sym, ap, _∙_}
@@ -10,6 +11,7 @@ use Prim.Native.Nat.{ℕ, _+_, _≤_, _<_, _^_}
 use native.Mathlib.Omega.{arith}
 use lib.ListN.{length, length-append}
 use borrow.Author.Tests.{lt-ltb, le-ltb}
+use Rattle.text.specs.declared.bytes.Found.{Found}
 use Rattle.tape.specs.declared.refusal.Refusal.the-variants as refusal
 use Rattle.tape.specs.Targets.{Wrote}
 use Rattle.tape.specs.Numbers.{spanBytes}
@@ -24,7 +26,7 @@ use Rattle.definitions.specs.declared.state.Answer.the-variants as answer
 use Rattle.definitions.specs.declared.state.Stepped.{Stepped}
 use Rattle.definitions.specs.Judging.{refuse}
 use Rattle.definitions.specs.Calls.{noticeBytesOf, noticeBytes}
-use Rattle.definitions.specs.Opening.{modeOf, pragmaUnder, settingsWith, settingsOf, pragmaNotice, openingNotices, openingBytes, noticesFitted}
+use Rattle.definitions.specs.Opening.{modeOf, pragmaUnder, settingsWith, settingsOf, pragmaNotice, openingNotices, openingBytes, ifClassic, noticesFitted}
 use Rattle.definitions.specs.States.{borneOut}
 use Rattle.definitions.specs.Entries.{laid, noJob, openedBy}
 use Rattle.definitions.proofs.OpeningNotices.{notice-append, under-within}
@@ -45,6 +47,10 @@ pub wrote-part : (i n : ℕ) {o o₁ o₂ : List ℕ} {at r r₂ : ℕ} → leng
     → Wrote o o₂ at r₂ (noticeBytes (pragmaNotice (pragma.Invalid i n)))
 unfolding pragmaNotice noticeBytes noticeBytesOf
 wrote-part i n short w v = wrote-as (sym (append-nil (0xc2 ∷ spanBytes (record { start = i; len = n })))) (wrote-then short w v)
+
+-- a search under the options' mode that came to x
+pub found-under : {m k : Mode} {f x : Found} (g : Found) → m ≡ k → f ≡ ifClassic m g → f ≡ x → ifClassic k g ≡ x
+found-under g hm e h = sym (e ∙ ap (λ (n : Mode). ifClassic n g) hm) ∙ h
 
 -- both pragmas as they were read under the options' mode
 module _ (text : List ℕ) (o : Options) (notices : List ℕ) {m : Mode} {p f : PragmaRead} (hm : m ≡ modeOf (o .flags)) (hp : p ≡ pragmaUnder m text (o .pragma))

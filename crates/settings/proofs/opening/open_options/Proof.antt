@@ -1,11 +1,9 @@
-use denote.Ref.{now}
-use mathlib.Core.Path.{refl, ap, _∙_}
-use Rattle.text.proofs.Lists.{told}
-use Rattle.definitions.specs.declared.options.Mode.{Mode}
+use mathlib.Core.Path.{refl}
 use Rattle.definitions.specs.Judging.{refuseAt}
-use Rattle.definitions.specs.Opening.{settingsOf, overAsciiIn, ifClassic, pragmasChecked}
+use Rattle.definitions.specs.Opening.{settingsOf, pragmasChecked}
 use Rattle.definitions.specs.Entries.{openedBy}
 use borrow.Author.Needs.{needs}
+use Rattle.settings.proofs.Noticing.{found-under}
 use Rattle.settings.proofs.opening.open_options.Statement.{statement}
 use Rattle.settings.proofs.opening.open_options.Tie as tie
 
@@ -45,10 +43,8 @@ returns c =
     let at-place = c .before .before in
     let at-over-ascii-under = at-place .before .before in
     let at-mode-of = at-over-ascii-under .before in
-    let at-entry = at-mode-of .before .before .before .before in
-    rw (told (at-over-ascii-under .over-ascii-under .ensures ∙ ap
-    (λ (m : Mode). ifClassic m (overAsciiIn (now (at-entry .args .text)) (at-entry .args .options .pragma))) (at-mode-of .mode-of .ensures))
-    (at-place .place .given .1)) (record { answered = c .refused .ensures; noticed = refl })
+    rw (found-under _ (at-mode-of .mode-of .ensures) (at-over-ascii-under .over-ascii-under .ensures) (at-place .place .given .1))
+    (record { answered = c .refused .ensures; noticed = refl })
 
 returns-2 : tie.Need-returns-2
 unfolding pragmasChecked settingsOf refuseAt openedBy
@@ -57,16 +53,10 @@ returns-2 c =
     let at-over-ascii-under2 = at-place2 .before .before in
     let at-enum-told = at-over-ascii-under2 .before in
     let at-over-ascii-under = at-enum-told .before .before in
-    let at-mode-of = at-over-ascii-under .before in
-    let at-entry = at-mode-of .before .before .before .before in
+    let m = at-over-ascii-under .before .mode-of .ensures in
     rw (
-      told (at-over-ascii-under .over-ascii-under .ensures ∙ ap
-          (λ (m : Mode). ifClassic m (overAsciiIn (now (at-entry .args .text)) (at-entry .args .options .pragma))) (at-mode-of .mode-of .ensures))
-          (at-enum-told .enum-told .given .1),
-      told
-          (at-over-ascii-under2 .over-ascii-under2 .ensures ∙ ap
-          (λ (m : Mode). ifClassic m (overAsciiIn (now (at-entry .args .text)) (at-entry .args .options .«pragma_frag»)))
-          (at-mode-of .mode-of .ensures)) (at-place2 .place2 .given .1),
+      found-under _ m (at-over-ascii-under .over-ascii-under .ensures) (at-enum-told .enum-told .given .1),
+      found-under _ m (at-over-ascii-under2 .over-ascii-under2 .ensures) (at-place2 .place2 .given .1),
     ) (record { answered = c .refused2 .ensures; noticed = refl })
 
 same-length : tie.Need-same-length
@@ -80,16 +70,10 @@ returns-3 c =
     let at-over-ascii-under2 = at-enum-told2 .before .before in
     let at-enum-told = at-over-ascii-under2 .before in
     let at-over-ascii-under = at-enum-told .before .before in
-    let at-mode-of = at-over-ascii-under .before in
-    let at-entry = at-mode-of .before .before .before .before in
+    let m = at-over-ascii-under .before .mode-of .ensures in
     rw (
-      told (at-over-ascii-under .over-ascii-under .ensures ∙ ap
-          (λ (m : Mode). ifClassic m (overAsciiIn (now (at-entry .args .text)) (at-entry .args .options .pragma))) (at-mode-of .mode-of .ensures))
-          (at-enum-told .enum-told .given .1),
-      told
-          (at-over-ascii-under2 .over-ascii-under2 .ensures ∙ ap
-          (λ (m : Mode). ifClassic m (overAsciiIn (now (at-entry .args .text)) (at-entry .args .options .«pragma_frag»)))
-          (at-mode-of .mode-of .ensures)) (at-enum-told2 .enum-told2 .given .1),
+      found-under _ m (at-over-ascii-under .over-ascii-under .ensures) (at-enum-told .enum-told .given .1),
+      found-under _ m (at-over-ascii-under2 .over-ascii-under2 .ensures) (at-enum-told2 .enum-told2 .given .1),
     ) (at-open-noticed .open-noticed .ensures)
 
 pub open-options-spec : {M : Type 1} → statement M
