@@ -23,6 +23,8 @@ LEFT = re.compile(r"^note: (src/\S+?):(\d+):\d+: it is not proved that .*?\(`([^
 LINE = re.compile(r"^(?:fn|struct|enum|impl|trait|closure|type) (\S+): ")
 UNPROVED = re.compile(r"`search` did not prove (.*)$")
 FALSE = "the facts known there allow values at which this goal is false"
+# where examples stand that are computed from definitions
+EXAMPLES = ("specs/", "proofs/Examples.antt")
 
 
 class Verdict:
@@ -81,7 +83,7 @@ def of_function(said, function):
 
 def of_definition(said):
     """The verdict of a check on an edit of a definition: the first error of all counts, an example's that is computed from it before a law's."""
-    found = sorted(errors(said), key=lambda error: not error[0].startswith("specs/"))
+    found = sorted(errors(said), key=lambda error: not error[0].startswith(EXAMPLES))
     if found:
         return by_error(*found[0])
     for line in said.split("\n"):

@@ -94,6 +94,7 @@ CASES = [
     ("a law", None, error("proofs/Boundaries.antt", "cuts-from", DIFFER) + error("proofs/Boundaries.antt", "boundary-next", FOLLOWS), "refused"),
     ("a name that is not there", None, error("proofs/Boundaries.antt", "cuts-from", "`callsOf` is not in scope"), "broken"),
     ("an example before a law", None, error("proofs/Boundaries.antt", "cuts-from", "`x` is not in scope") + error("specs/Examples.antt", "bounds", DIFFER), "refused"),
+    ("an example that is proved in proofs/", None, error("proofs/Boundaries.antt", "cuts-from", "`x` is not in scope") + error("proofs/Examples.antt", "computed", DIFFER), "refused"),
     ("a definition that is no antt", None, "./specs/Spans.antt:5:1: error: unexpected `)`\n", "broken"),
     ("a goal behind a definition", None, goal(7, "returns") + OFFERED, "refused"),
     ("nothing", None, "", "open"),

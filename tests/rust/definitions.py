@@ -1,7 +1,7 @@
 """Computes generated cases from the definitions of crates/definitions and compares them with model.py: definitions.py [CASES] [SEED]
 
-The cases have one root each. They become tables as in crates/definitions/specs/Examples.antt, which the prover computes by `refl`; a case that
-differs is an error that names both sides. Needs the Rattle kit. Cases with long texts or tapes are left out. An opening that tells of a pragma is computed by itself
+The cases have one root each. They become tables as in crates/definitions/specs/Examples.antt, which the prover computes by `refl` as those are in proofs/Examples.antt; a
+case that differs is an error that names both sides. Needs the Rattle kit. Cases with long texts or tapes are left out. An opening that tells of a pragma is computed by itself
 too, over notice targets that have a byte too few, just enough and one more. Prints how many rows were computed, how many of them are accepted, and how often each
 refusal comes up.
 """
@@ -69,12 +69,13 @@ def rows(work, count, seed):
 
 
 def table(part):
-    examples = (top / "crates/definitions/specs/Examples.antt").read_text()
-    head = examples[:examples.index("-- ---- how rows are written")]
+    examples = (top / "crates/definitions/proofs/Examples.antt").read_text()
+    head = examples[examples.index("\nuse ") + 1:examples.index("use Rattle.definitions.specs.Examples.")]
+    head += "use Rattle.std.specs.Prelude.{List, [], ◌∷◌}\nuse Rattle.definitions.specs.Program.{printed, refused_with}\n"
     unfolded = examples[examples.index("unfolding", examples.index("\ncomputed :")):examples.index("computed = (refl, refl)")]
-    names = "digit, hex_of, hex, prints, opens, output, noticed, refused_over, pairs_of, opening_reply, meaning_of, meaning, reply_to, Row, ◌gives◌"
+    names = "digit, hex_of, hex, prints, opens, output, noticed, refused_over, pairs_of, opening_reply, meaning_of, meaning, reply_to, Row, ◌gives◌, Answered"
     return (head + f"use Rattle.definitions.specs.Examples.{{{names}}}\n\nabbrev table : List Row\ntable =\n    " + "\n    ∷ ".join(part)
-        + "\n    ∷ []\n\npub computed : map (λ r. reply_to r.asked) table ≡ map (λ r. r.expected) table\n" + unfolded + "computed = refl\n")
+        + "\n    ∷ []\n\npub computed : Answered table\n" + unfolded + "computed = refl\n")
 
 
 def main():

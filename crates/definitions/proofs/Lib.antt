@@ -23,3 +23,4 @@ pub mod Weights
 pub mod Fewness
 pub mod TreeSizes
 pub mod Notes
+pub mod Examples
