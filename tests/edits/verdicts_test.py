@@ -40,7 +40,7 @@ def fn(path, said):
 
 
 SOURCE = """fn cuts_at(text: &[u8], i: usize) -> bool
-    ensures { result ≡ cutsAt text.now i }
+    ensures { result ≡ cuts_at text.now i }
 {
     false
 }
@@ -91,10 +91,10 @@ CASES = [
     ("a member of a cycle", "check_kids", error(KIDS, "check_kids-returns", DIFFER), "refused"),
     ("another member of it", "check", error(KIDS, "check_kids-returns", DIFFER), "open"),
     ("a measure of it", "check", error(KIDS.replace("Answers", "Invariants"), "decreases-check", DIFFER), "refused"),
-    ("a law", None, error("proofs/Boundaries.antt", "cuts-from", DIFFER) + error("proofs/Boundaries.antt", "boundary-next", FOLLOWS), "refused"),
-    ("a name that is not there", None, error("proofs/Boundaries.antt", "cuts-from", "`callsOf` is not in scope"), "broken"),
-    ("an example before a law", None, error("proofs/Boundaries.antt", "cuts-from", "`x` is not in scope") + error("specs/Examples.antt", "bounds", DIFFER), "refused"),
-    ("an example that is proved in proofs/", None, error("proofs/Boundaries.antt", "cuts-from", "`x` is not in scope") + error("proofs/Examples.antt", "computed", DIFFER), "refused"),
+    ("a law", None, error("proofs/Boundaries.antt", "cuts_from", DIFFER) + error("proofs/Boundaries.antt", "boundary_next", FOLLOWS), "refused"),
+    ("a name that is not there", None, error("proofs/Boundaries.antt", "cuts_from", "`calls_of` is not in scope"), "broken"),
+    ("an example before a law", None, error("proofs/Boundaries.antt", "cuts_from", "`x` is not in scope") + error("specs/Examples.antt", "bounds", DIFFER), "refused"),
+    ("an example that is proved in proofs/", None, error("proofs/Boundaries.antt", "cuts_from", "`x` is not in scope") + error("proofs/Examples.antt", "computed", DIFFER), "refused"),
     ("a definition that is no antt", None, "./specs/Spans.antt:5:1: error: unexpected `)`\n", "broken"),
     ("a goal behind a definition", None, goal(7, "returns") + OFFERED, "refused"),
     ("nothing", None, "", "open"),

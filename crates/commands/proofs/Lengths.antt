@@ -1,5 +1,5 @@
 -- A command that was read off a tape takes no more bytes than the tape has: for a reader's answer c the law takes what the contract says, the
--- other way round, and gives `…Size c ≤ length t`. By its code alone no command takes more than nine bytes (`size-most`).
+-- other way round, and gives `…Size c ≤ length t`. By its code alone no command takes more than nine bytes (`size_most`).
 -- Assumes nothing.
 use mathlib.Core.Path.{◌≡◌, refl, subst}
 use mathlib.Core.Bool.{Bool, true, false, cond, ◌&&◌}
@@ -45,18 +45,18 @@ with_operands P n t {cut} {whole} p q = go (ltb (length t) n) refl
 
 -- ---- the opening tape
 
-pub flags-fits : (t : List ℕ) {c : FlagsCommand} → flags_command t ≡ c → flags_size c ≤ length t
+pub flags_fits : (t : List ℕ) {c : FlagsCommand} → flags_command t ≡ c → flags_size c ≤ length t
 unfolding flags_command
-flags-fits [] e = subst (Within flags_size []) e (omega arith)
-flags-fits (b ∷ t) e =
+flags_fits [] e = subst (Within flags_size []) e (omega arith)
+flags_fits (b ∷ t) e =
     let P : FlagsCommand → Type 0 = Within flags_size (b ∷ t) in
     subst P e
     (choose P (eqb b 0x61) (with_operands P 2 t (omega arith) (λ h. choose P (ltb (u16_at t 0) 256) (omega arith) (omega arith))) (omega arith))
 
-pub option-fits : (last : ℕ) (t : List ℕ) {c : OptionCommand} → option_command last t ≡ c → option_size c ≤ length t
+pub option_fits : (last : ℕ) (t : List ℕ) {c : OptionCommand} → option_command last t ≡ c → option_size c ≤ length t
 unfolding option_command
-option-fits last [] e = subst (Within option_size []) e (omega arith)
-option-fits last (b ∷ t) e =
+option_fits last [] e = subst (Within option_size []) e (omega arith)
+option_fits last (b ∷ t) e =
     let P : OptionCommand → Type 0 = Within option_size (b ∷ t) in
     subst P e
     (choose P (eqb b 0x60) (with_operands P 4 t (omega arith) (λ h. omega arith))
@@ -66,20 +66,20 @@ option-fits last (b ∷ t) e =
 
 -- ---- the root tape
 
-pub heritage-fits : (t : List ℕ) {c : HeritageCommand} → heritage_command t ≡ c → heritage_size c ≤ length t
+pub heritage_fits : (t : List ℕ) {c : HeritageCommand} → heritage_command t ≡ c → heritage_size c ≤ length t
 unfolding heritage_command
-heritage-fits [] e = subst (Within heritage_size []) e (omega arith)
-heritage-fits (b ∷ []) e =
+heritage_fits [] e = subst (Within heritage_size []) e (omega arith)
+heritage_fits (b ∷ []) e =
     let P : HeritageCommand → Type 0 = Within heritage_size (b ∷ []) in
     subst P e (choose P (eqb b 0x01) (omega arith) (omega arith))
-heritage-fits (b ∷ k ∷ t) e =
+heritage_fits (b ∷ k ∷ t) e =
     let P : HeritageCommand → Type 0 = Within heritage_size (b ∷ k ∷ t) in
     subst P e (choose P (eqb b 0x01) (choose P (leb k 2) (omega arith) (omega arith)) (omega arith))
 
-pub scope-fits : (found : Bool) (t : List ℕ) {c : ScopeCommand} → scope_command found t ≡ c → scope_size c ≤ length t
+pub scope_fits : (found : Bool) (t : List ℕ) {c : ScopeCommand} → scope_command found t ≡ c → scope_size c ≤ length t
 unfolding scope_command
-scope-fits found [] e = subst (Within scope_size []) e (omega arith)
-scope-fits found (b ∷ t) e =
+scope_fits found [] e = subst (Within scope_size []) e (omega arith)
+scope_fits found (b ∷ t) e =
     let P : ScopeCommand → Type 0 = Within scope_size (b ∷ t) in
     subst P e
     (choose P (eqb b 0x02) (kind t)
@@ -90,10 +90,10 @@ scope-fits found (b ∷ t) e =
     kind [] = omega arith
     kind (k ∷ t) = choose (Within scope_size (b ∷ k ∷ t)) (leb k 3) (omega arith) (omega arith)
 
-pub name-fits : (t : List ℕ) {c : NameCommand} → name_command t ≡ c → name_size c ≤ length t
+pub name_fits : (t : List ℕ) {c : NameCommand} → name_command t ≡ c → name_size c ≤ length t
 unfolding name_command
-name-fits [] e = subst (Within name_size []) e (omega arith)
-name-fits (b ∷ t) e =
+name_fits [] e = subst (Within name_size []) e (omega arith)
+name_fits (b ∷ t) e =
     let P : NameCommand → Type 0 = Within name_size (b ∷ t) in
     subst P e
     (choose P (eqb b 0x20) (with_operands P 4 t (omega arith) (λ h. omega arith))
@@ -101,18 +101,18 @@ name-fits (b ∷ t) e =
     (choose P (eqb b 0x22) (omega arith)
     (choose P (eqb b 0x23) (with_operands P 8 t (omega arith) (λ h. omega arith)) (omega arith)))))
 
-pub member-fits : (t : List ℕ) {c : MemberCommand} → member_command t ≡ c → member_size c ≤ length t
+pub member_fits : (t : List ℕ) {c : MemberCommand} → member_command t ≡ c → member_size c ≤ length t
 unfolding member_command
-member-fits [] e = subst (Within member_size []) e (omega arith)
-member-fits (b ∷ t) e =
+member_fits [] e = subst (Within member_size []) e (omega arith)
+member_fits (b ∷ t) e =
     let P : MemberCommand → Type 0 = Within member_size (b ∷ t) in
     subst P e
     (choose P (eqb b 0x25) (with_operands P 4 t (omega arith) (λ h. omega arith)) (omega arith))
 
-pub attribute-fits : (t : List ℕ) {c : AttributeCommand} → attribute_command t ≡ c → attribute_size c ≤ length t
+pub attribute_fits : (t : List ℕ) {c : AttributeCommand} → attribute_command t ≡ c → attribute_size c ≤ length t
 unfolding attribute_command
-attribute-fits [] e = subst (Within attribute_size []) e (omega arith)
-attribute-fits (b ∷ t) e =
+attribute_fits [] e = subst (Within attribute_size []) e (omega arith)
+attribute_fits (b ∷ t) e =
     let P : AttributeCommand → Type 0 = Within attribute_size (b ∷ t) in
     subst P e
     (choose P (eqb b 0x30) (with_operands P 4 t (omega arith) (λ h. omega arith))
@@ -121,20 +121,20 @@ attribute-fits (b ∷ t) e =
     (choose P (eqb b 0x33) (with_operands P 2 t (omega arith) (λ h. omega arith))
     (choose P (eqb b 0x1e) (omega arith) (omega arith))))))
 
-pub property-fits : (t : List ℕ) {c : PropertyCommand} → property_command t ≡ c → property_size c ≤ length t
+pub property_fits : (t : List ℕ) {c : PropertyCommand} → property_command t ≡ c → property_size c ≤ length t
 unfolding property_command
-property-fits [] e = subst (Within property_size []) e (omega arith)
-property-fits (b ∷ t) e =
+property_fits [] e = subst (Within property_size []) e (omega arith)
+property_fits (b ∷ t) e =
     let P : PropertyCommand → Type 0 = Within property_size (b ∷ t) in
     subst P e
     (choose P (eqb b 0x34) (with_operands P 2 t (omega arith) (λ h. omega arith))
     (choose P (eqb b 0x36) (with_operands P 6 t (omega arith) (λ h. omega arith))
     (choose P (eqb b 0x35) (omega arith) (omega arith))))
 
-pub value-fits : (t : List ℕ) {c : ValueCommand} → value_command t ≡ c → value_size c ≤ length t
+pub value_fits : (t : List ℕ) {c : ValueCommand} → value_command t ≡ c → value_size c ≤ length t
 unfolding value_command
-value-fits [] e = subst (Within value_size []) e (omega arith)
-value-fits (b ∷ t) e =
+value_fits [] e = subst (Within value_size []) e (omega arith)
+value_fits (b ∷ t) e =
     let P : ValueCommand → Type 0 = Within value_size (b ∷ t) in
     subst P e
     (choose P (eqb b 0x40) (omega arith)
@@ -165,15 +165,15 @@ unfoldable up_to : ℕ → List (ℕ × ℕ) → Bool
 up_to m [] = true
 up_to m (c ∷ cs) = leb c.1 m && up_to m cs
 
-size-within : (m code : ℕ) (cs : List (ℕ × ℕ)) → up_to m cs ≡ true → size_in cs code ≤ m
+size_within : (m code : ℕ) (cs : List (ℕ × ℕ)) → up_to m cs ≡ true → size_in cs code ≤ m
 unfolding up_to size_in
-size-within m code [] e = omega arith
-size-within m code (c ∷ cs) e = go (leb c.1 m) refl e (size-within m code cs)
+size_within m code [] e = omega arith
+size_within m code (c ∷ cs) e = go (leb c.1 m) refl e (size_within m code cs)
   where
     go : (b : Bool) → leb c.1 m ≡ b → (b && up_to m cs) ≡ true → (up_to m cs ≡ true → size_in cs code ≤ m) → cond (eqb code c.0) c.1 (size_in cs code) ≤ m
     go true f g ih = choose (λ (n : ℕ). n ≤ m) (eqb code c.0) (leb-true c.1 m f) (ih g)
     go false f g ih = let z : ◌≡◌ {A = ℕ} 0 1 = cc in absurd (omega arith)
 
-pub size-most : (code : ℕ) → command_size code ≤ 9
+pub size_most : (code : ℕ) → command_size code ≤ 9
 unfolding command_size root_commands up_to
-size-most code = size-within 9 code root_commands refl
+size_most code = size_within 9 code root_commands refl

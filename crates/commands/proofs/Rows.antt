@@ -1,9 +1,9 @@
 -- Sizes packed in rows, computed for each code.
---     at-half, no_row     the row that was chosen, by the code's upper half; from the code 60 on there is no command
+--     at_half, no_row     the row that was chosen, by the code's upper half; from the code 60 on there is no command
 --     digit               a row's digit, found by shifts, is its code's size
 -- Assumes nothing.
 use mathlib.Core.Path.{◌≡◌, refl, sym, ap, subst, ◌∙◌}
-use mathlib.Core.Bool.{Bool, true, false, ◌&&◌}
+use mathlib.Core.Bool.{Bool, true, ◌&&◌}
 use mathlib.Core.Logic.{⊎_elim, ◌⊎◌, inl, inr}
 use Prim.Native.Nat.{ℕ, zero, suc, ◌+◌, ◌-◌, ◌*◌, ◌/◌, ◌%◌, ◌^◌, ◌≤◌, ◌<◌}
 use native.Mathlib.Omega.{arith}
@@ -17,18 +17,18 @@ all_below : (ℕ → Bool) → ℕ → Bool
 all_below p zero = true
 all_below p (suc n) = p n && all_below p n
 
-last-or-below : (k n : ℕ) → k < suc n → (k ≡ n) ⊎ (k < n)
-last-or-below zero zero h = inl refl
-last-or-below zero (suc n) h = inr (omega arith)
-last-or-below (suc k) zero h = absurd (omega arith)
-last-or-below (suc k) (suc n) h = ⊎_elim (λ e. inl (ap suc e)) (λ l. inr (omega arith)) (last-or-below k n (omega arith))
+last_or_below : (k n : ℕ) → k < suc n → (k ≡ n) ⊎ (k < n)
+last_or_below zero zero h = inl refl
+last_or_below zero (suc n) h = inr (omega arith)
+last_or_below (suc k) zero h = absurd (omega arith)
+last_or_below (suc k) (suc n) h = ⊎_elim (λ e. inl (ap suc e)) (λ l. inr (omega arith)) (last_or_below k n (omega arith))
 
 each : (p : ℕ → Bool) (n k : ℕ) → all_below p n ≡ true → k < n → p k ≡ true
 unfolding all_below
 each p zero k h below = absurd (omega arith)
 each p (suc n) k h below =
     let t = both (p n) (all_below p n) h in
-    ⊎_elim (λ e. ap p e ∙ t.0) (λ l. each p n k t.1 l) (last-or-below k n below)
+    ⊎_elim (λ e. ap p e ∙ t.0) (λ l. each p n k t.1 l) (last_or_below k n below)
 
 same : (x y : ℕ) → eqb x y ≡ true → x ≡ y
 same x y h = eqb→eq x y (subst T (sym h) tt)
@@ -44,8 +44,8 @@ packed (suc n) code = command_size code + 16 * packed n (suc code)
 unfoldable pub row_of : ℕ → ℕ
 row_of half = packed 16 (half * 16)
 
-pub at-half : (k : ℕ) {row half : ℕ} → half ≡ k → row ≡ row_of k → row ≡ row_of half
-at-half k e r = r ∙ ap row_of (sym e)
+pub at_half : (k : ℕ) {row half : ℕ} → half ≡ k → row ≡ row_of k → row ≡ row_of half
+at_half k e r = r ∙ ap row_of (sym e)
 
 abbrev row_less : ℕ → Bool
 row_less k = eqb (row_of (6 + k)) 0

@@ -29,7 +29,7 @@ cut_at f t lengths = map (λ n. f (take n t)) lengths
 -- ---- the opening tape
 
 -- all eight flags are allowed, a ninth isn't; no other command comes first
-pub flags-first :
+pub flags_first :
     map flags_command
     ((0x61 ∷ 0xff ∷ 0x00 ∷ [])
     ∷ (0x61 ∷ 0x00 ∷ 0x01 ∷ [])
@@ -38,18 +38,18 @@ pub flags-first :
     ∷ [])
     ≡ flags.Flags 255 ∷ flags.Bad ∷ flags.Wrong ∷ flags.Wrong ∷ []
 unfolding flags_command
-flags-first = refl
+flags_first = refl
 
-pub flags-cut : cut_at flags_command (0x61 ∷ 0x00 ∷ 0x01 ∷ []) (0 ∷ 1 ∷ 2 ∷ []) ≡ replicate 3 flags.Cut
+pub flags_cut : cut_at flags_command (0x61 ∷ 0x00 ∷ 0x01 ∷ []) (0 ∷ 1 ∷ 2 ∷ []) ≡ replicate 3 flags.Cut
 unfolding flags_command
-flags-cut = refl
+flags_cut = refl
 
 -- what is read behind the command `last`
 abbrev pub after : ℕ × List ℕ → OptionCommand
 after p = option_command p.0 p.1
 
 -- 62 63 64 60 60, each behind the one before it; then the tape's end
-pub options-in-order :
+pub options_in_order :
     map after
     ((0x61, 0x62 ∷ 1 ∷ 0 ∷ 2 ∷ 0 ∷ [])
     ∷ (0x62, 0x63 ∷ 1 ∷ 0 ∷ 2 ∷ 0 ∷ [])
@@ -66,10 +66,10 @@ pub options-in-order :
     ∷ option.End
     ∷ []
 unfolding option_command
-options-in-order = refl
+options_in_order = refl
 
 -- any of them may be left out; 63 62, 62 62 and 60 64 are wrong, as is a second 61
-pub options-by-order :
+pub options_by_order :
     map after
     ((0x61, 0x64 ∷ 1 ∷ 0 ∷ 2 ∷ 0 ∷ [])
     ∷ (0x61, 0x60 ∷ 1 ∷ 0 ∷ 2 ∷ 0 ∷ [])
@@ -81,24 +81,24 @@ pub options-by-order :
     ∷ [])
     ≡ option.ImportSource (span 1 2) ∷ option.Comment (span 1 2) ∷ replicate 5 option.Wrong
 unfolding option_command
-options-by-order = refl
+options_by_order = refl
 
 -- a command that may not stand there is wrong before it is cut off
-pub options-cut :
+pub options_cut :
     cut_at (option_command 0x61) (0x62 ∷ 1 ∷ 0 ∷ 2 ∷ 0 ∷ []) (0 ∷ 1 ∷ 2 ∷ 3 ∷ 4 ∷ [])
     ++ cut_at (option_command 0x62) (0x62 ∷ 1 ∷ 0 ∷ 2 ∷ 0 ∷ []) (0 ∷ 1 ∷ 2 ∷ 3 ∷ 4 ∷ [])
     ≡ (option.End ∷ replicate 4 option.Cut) ++ (option.End ∷ replicate 4 option.Wrong)
 unfolding option_command
-options-cut = refl
+options_cut = refl
 
 -- ---- the root tape
 
 -- a command that may not stand there comes first, then operands cut off, then a bad operand
-pub heritage-order :
+pub heritage_order :
     map heritage_command ([] ∷ (0x02 ∷ []) ∷ (0x02 ∷ 0 ∷ []) ∷ (0x01 ∷ []) ∷ (0x01 ∷ 3 ∷ []) ∷ (0x01 ∷ 0 ∷ []) ∷ (0x01 ∷ 1 ∷ 9 ∷ []) ∷ (0x01 ∷ 2 ∷ []) ∷ [])
     ≡ heritage.Cut ∷ heritage.Wrong ∷ heritage.Wrong ∷ heritage.Cut ∷ heritage.Bad ∷ heritage.Heritage 0 ∷ heritage.Heritage 1 ∷ heritage.Heritage 2 ∷ []
 unfolding heritage_command
-heritage-order = refl
+heritage_order = refl
 
 abbrev pub scopes : List (List ℕ)
 scopes =
@@ -114,13 +114,13 @@ scopes =
     ∷ []
 
 -- an element or a fragment comes behind a scope of kind 2 or 3 alone
-pub scopes-before :
+pub scopes_before :
     map (scope_command false) scopes
     ≡ scope.Scope 0 ∷ scope.Scope 3 ∷ scope.Bad ∷ scope.Cut ∷ scope.Wrong ∷ scope.Wrong ∷ scope.Wrong ∷ scope.Wrong ∷ scope.Cut ∷ []
 unfolding scope_command
-scopes-before = refl
+scopes_before = refl
 
-pub scopes-behind :
+pub scopes_behind :
     map (scope_command true) scopes
     ≡ scope.Scope 0
     ∷ scope.Scope 3
@@ -133,9 +133,9 @@ pub scopes-behind :
     ∷ scope.Cut
     ∷ []
 unfolding scope_command
-scopes-behind = refl
+scopes_behind = refl
 
-pub names-read :
+pub names_read :
     map name_command
     ((0x20 ∷ 1 ∷ 0 ∷ 2 ∷ 0 ∷ [])
     ∷ (0x21 ∷ 1 ∷ 0 ∷ 2 ∷ 0 ∷ [])
@@ -152,16 +152,16 @@ pub names-read :
     ∷ name.Wrong
     ∷ []
 unfolding name_command
-names-read = refl
+names_read = refl
 
-pub names-cut :
+pub names_cut :
     cut_at name_command (0x23 ∷ 1 ∷ 0 ∷ 2 ∷ 0 ∷ 3 ∷ 0 ∷ 4 ∷ 0 ∷ []) (0 ∷ 1 ∷ 2 ∷ 3 ∷ 4 ∷ 5 ∷ 6 ∷ 7 ∷ 8 ∷ 9 ∷ [])
     ≡ replicate 9 name.Cut ++ (name.Namespaced (span 1 2) (span 3 4) ∷ [])
 unfolding name_command
-names-cut = refl
+names_cut = refl
 
 -- what is no property ends the name, be it the tape's end or a command that may not stand there
-pub members-read :
+pub members_read :
     map member_command
     ((0x25 ∷ 1 ∷ 0 ∷ 2 ∷ 0 ∷ [])
     ∷ (0x25 ∷ 1 ∷ 0 ∷ 2 ∷ [])
@@ -172,9 +172,9 @@ pub members-read :
     ∷ [])
     ≡ member.Member (span 1 2) ∷ member.Cut ∷ member.Cut ∷ member.Other ∷ member.Other ∷ member.Other ∷ []
 unfolding member_command
-members-read = refl
+members_read = refl
 
-pub attributes-read :
+pub attributes_read :
     map attribute_command
     ((0x30 ∷ 1 ∷ 0 ∷ 2 ∷ 0 ∷ [])
     ∷ (0x31 ∷ 1 ∷ 0 ∷ 2 ∷ 0 ∷ 3 ∷ 0 ∷ 4 ∷ 0 ∷ [])
@@ -197,9 +197,9 @@ pub attributes-read :
     ∷ attribute.Cut
     ∷ []
 unfolding attribute_command
-attributes-read = refl
+attributes_read = refl
 
-pub properties-read :
+pub properties_read :
     map property_command
     ((0x34 ∷ 1 ∷ 2 ∷ [])
     ∷ (0x36 ∷ 1 ∷ 2 ∷ 3 ∷ 0 ∷ 0 ∷ 0 ∷ [])
@@ -209,14 +209,14 @@ pub properties-read :
     ∷ [])
     ≡ property.Property 513 ∷ property.Named 513 (span 3 0) ∷ property.End ∷ property.Wrong ∷ property.Wrong ∷ []
 unfolding property_command
-properties-read = refl
+properties_read = refl
 
-pub properties-cut :
+pub properties_cut :
     cut_at property_command (0x36 ∷ 1 ∷ 2 ∷ 3 ∷ 0 ∷ 0 ∷ 0 ∷ []) (0 ∷ 1 ∷ 2 ∷ 3 ∷ 4 ∷ 5 ∷ 6 ∷ []) ≡ replicate 7 property.Cut
 unfolding property_command
-properties-cut = refl
+properties_cut = refl
 
-pub values-read :
+pub values_read :
     map value_command
     ((0x40 ∷ [])
     ∷ (0x41 ∷ 1 ∷ 0 ∷ 2 ∷ 0 ∷ [])
@@ -241,9 +241,9 @@ pub values-read :
     ∷ value.Cut
     ∷ []
 unfolding value_command
-values-read = refl
+values_read = refl
 
-pub children-read :
+pub children_read :
     map child_command
     ((0x50 ∷ 1 ∷ 0 ∷ 2 ∷ 0 ∷ [])
     ∷ (0x42 ∷ 1 ∷ 2 ∷ [])
@@ -266,23 +266,23 @@ pub children-read :
     ∷ child.Wrong
     ∷ []
 unfolding child_command
-children-read = refl
+children_read = refl
 
-pub children-cut :
+pub children_cut :
     cut_at child_command (0x10 ∷ 1 ∷ 0 ∷ 0 ∷ 0 ∷ 2 ∷ 1 ∷ 0 ∷ 0 ∷ []) (0 ∷ 1 ∷ 2 ∷ 3 ∷ 4 ∷ 5 ∷ 6 ∷ 7 ∷ 8 ∷ []) ≡ replicate 9 child.Cut
 unfolding child_command
-children-cut = refl
+children_cut = refl
 
 -- ---- sizes by the code
 
 -- what carries a kind, a place, nothing, a span, two spans, an expression, an expression and a span
-pub sizes-told :
+pub sizes_told :
     map command_size (0x01 ∷ 0x02 ∷ 0x10 ∷ 0x11 ∷ 0x1e ∷ 0x1f ∷ 0x20 ∷ 0x22 ∷ 0x23 ∷ 0x31 ∷ 0x33 ∷ 0x36 ∷ 0x41 ∷ 0x42 ∷ 0x43 ∷ 0x50 ∷ 0x51 ∷ [])
     ≡ 2 ∷ 2 ∷ 9 ∷ 9 ∷ 1 ∷ 1 ∷ 5 ∷ 1 ∷ 9 ∷ 9 ∷ 3 ∷ 7 ∷ 5 ∷ 3 ∷ 1 ∷ 5 ∷ 3 ∷ []
 unfolding command_size size_in root_commands
-sizes-told = refl
+sizes_told = refl
 
 -- what begins no command of the root tape: gaps, a command of the opening tape, one of the call tape, the last byte
-pub sizes-none : map command_size (0x00 ∷ 0x03 ∷ 0x12 ∷ 0x24 ∷ 0x37 ∷ 0x44 ∷ 0x52 ∷ 0x61 ∷ 0x80 ∷ 0xff ∷ []) ≡ replicate 10 0
+pub sizes_none : map command_size (0x00 ∷ 0x03 ∷ 0x12 ∷ 0x24 ∷ 0x37 ∷ 0x44 ∷ 0x52 ∷ 0x61 ∷ 0x80 ∷ 0xff ∷ []) ≡ replicate 10 0
 unfolding command_size size_in root_commands
-sizes-none = refl
+sizes_none = refl

@@ -1,7 +1,7 @@
 -- docs/TAPES.md, "Opening tape": "61 flags u16; then at most one each, in this order, of 62 pragma S, 63 pragmaFrag S, 64 importSource S; then any
 -- number of 60 comment S (its content)." Which command stands at the front of a part of the opening tape. Of a command that may not stand
 -- there `Wrong` is told first, then `Cut` (its operands are cut off, or the tape ends), then `Bad` (an operand is not allowed).
-use Rattle.std.specs.Prelude.{ℕ, Bool, cond, ◌&&◌, List, [], ◌∷◌, length, eqb, ltb}
+use Rattle.std.specs.Prelude.{ℕ, cond, ◌&&◌, List, [], ◌∷◌, length, eqb, ltb}
 use Rattle.text.specs.declared.spans.Span.{Span}
 use Rattle.commands.specs.declared.opening.FlagsCommand.{FlagsCommand}
 use Rattle.commands.specs.declared.opening.FlagsCommand.TheVariants as flags

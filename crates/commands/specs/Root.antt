@@ -1,8 +1,7 @@
 -- docs/TAPES.md, "Root tape": its commands, each set of them by the place where it may stand. Which command stands at the front of
 -- a part of the tape. Of a command that may not stand there `Wrong` is told first, then `Cut` (its operands are cut off, or the tape ends),
 -- then `Bad` (an operand is not allowed).
-use Rattle.std.specs.Prelude.{ℕ, ◌+◌, Bool, true, false, cond, ◌&&◌, List, [], ◌∷◌, length, eqb, leb, ltb}
-use Rattle.text.specs.declared.spans.Span.{Span}
+use Rattle.std.specs.Prelude.{ℕ, ◌+◌, Bool, cond, ◌&&◌, List, [], ◌∷◌, length, eqb, leb, ltb}
 use Rattle.commands.specs.declared.root.Place.{Place}
 use Rattle.commands.specs.declared.root.HeritageCommand.{HeritageCommand}
 use Rattle.commands.specs.declared.root.HeritageCommand.TheVariants as heritage

@@ -38,7 +38,7 @@ pub const WITH_PLACE: usize = BARE + PLACE;
 
 // ---- what the commands of the root tape take, by code
 
-// Sixteen codes in a row, a hexadecimal digit for each, the first code's the last digit; 0 where there is no command. `rootCommands` (specs/Sizes) names them.
+// Sixteen codes in a row, a hexadecimal digit for each, the first code's the last digit; 0 where there is no command. `root_commands` (specs/Sizes) names them.
 const ROW_0: u64 = 0x0000_0000_0000_0220;
 
 const ROW_1: u64 = 0x1100_0000_0000_0099;

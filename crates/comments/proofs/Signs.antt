@@ -1,9 +1,9 @@
 -- The pragma search, from at sign to at sign.
---     jsx-here, jsx-absent   four bytes as a number tell whether they are `@jsx`
---     seek-short             fewer than four bytes hold no pragma
+--     jsx_here, jsx_absent   four bytes as a number tell whether they are `@jsx`
+--     seek_short             fewer than four bytes hold no pragma
 --     Reach                  the search from a place is the one that goes on at a later place; each event of the loop is a law from Reach to
 --                            Reach (reject, unknown) or to the answer (none, cut, no_word, known)
---     seek-after             a pragma is found behind the place where the search begins, and within the comment
+--     seek_after             a pragma is found behind the place where the search begins, and within the comment
 -- Assumes nothing.
 use mathlib.Core.Path.{◌≡◌, refl, sym, ap, ◌∙◌}
 use mathlib.Core.Bool.{Bool, true, false, cond, and-false}
@@ -19,8 +19,8 @@ use Rattle.definitions.specs.Comments.{is_at, is_blank, place_from, Keyword, jsx
 use Rattle.definitions.specs.Comments.{nothing, counts, on_keyword, on_word, on_sign, seek}
 use Rattle.text.specs.Bytes.{ascii, same}
 use Rattle.tape.specs.Numbers.{u32_at}
-use Rattle.text.proofs.Lists.{drop-one}
-use Rattle.text.proofs.Comparing.{same-lengths, same-eq}
+use Rattle.text.proofs.Lists.{drop_one}
+use Rattle.text.proofs.Comparing.{same_lengths, same_eq}
 use Rattle.text.proofs.Searching.{find_at}
 use Rattle.comments.specs.declared.PragmaType.{PragmaType}
 use Rattle.comments.specs.declared.PragmaType.TheVariants.{Jsx, JsxRuntime, JsxImportSource, JsxFrag}
@@ -29,40 +29,40 @@ use Rattle.comments.specs.declared.Next.TheVariants.{Byte, End}
 use Rattle.comments.specs.Searches.{stands, begins, four_at, byte_at, known_for}
 
 -- ---- places
-pub place-range : (p : ℕ → Bool) (c : List ℕ) (i j : ℕ) → place_from p c i ≡ At j → (i ≤ j) × (j < length c)
-place-range p c i j e =
+pub place_range : (p : ℕ → Bool) (c : List ℕ) (i j : ℕ) → place_from p c i ≡ At j → (i ≤ j) × (j < length c)
+place_range p c i j e =
     let r = find_at p (drop i c) i j e in
     (r.0, omega (arith, r.0, r.1.inside, length-drop i c))
 
 -- ---- bytes ahead: whether they are there, and which
 module _ (c : List ℕ) (i : ℕ) where
-  pub byte-here : (b : ℕ) → byte_at c i ≡ Byte b → (i < length c) × (get_or c i 0 ≡ b)
+  pub byte_here : (b : ℕ) → byte_at c i ≡ Byte b → (i < length c) × (get_or c i 0 ≡ b)
   unfolding byte_at
-  byte-here b e = go (ltb i (length c)) refl e
+  byte_here b e = go (ltb i (length c)) refl e
     where
       go : (t : Bool) → ltb i (length c) ≡ t → cond t (Byte (get_or c i 0)) End ≡ Byte b → (i < length c) × (get_or c i 0 ≡ b)
       go true h q = (ltb-true i (length c) h, cc)
       go false h q = let z : ◌≡◌ {A = ℕ} 0 1 = cc in absurd (omega arith)
 
-  pub byte-none : byte_at c i ≡ End → length c ≤ i
+  pub byte_none : byte_at c i ≡ End → length c ≤ i
   unfolding byte_at
-  byte-none e = go (ltb i (length c)) refl e
+  byte_none e = go (ltb i (length c)) refl e
     where
       go : (t : Bool) → ltb i (length c) ≡ t → cond t (Byte (get_or c i 0)) End ≡ End → length c ≤ i
       go true h q = let z : ◌≡◌ {A = ℕ} 0 1 = cc in absurd (omega arith)
       go false h q = ltb-false i (length c) h
 
-  pub four-here : (n : ℕ) → four_at c i ≡ Bytes n → (4 ≤ length c - i) × (u32_at c i ≡ n)
+  pub four_here : (n : ℕ) → four_at c i ≡ Bytes n → (4 ≤ length c - i) × (u32_at c i ≡ n)
   unfolding four_at
-  four-here n e = go (ltb (length c - i) 4) refl e
+  four_here n e = go (ltb (length c - i) 4) refl e
     where
       go : (t : Bool) → ltb (length c - i) 4 ≡ t → cond t Cut (Bytes (u32_at c i)) ≡ Bytes n → (4 ≤ length c - i) × (u32_at c i ≡ n)
       go true h q = let z : ◌≡◌ {A = ℕ} 0 1 = cc in absurd (omega arith)
       go false h q = (ltb-false (length c - i) 4 h, cc)
 
-  pub four-none : four_at c i ≡ Cut → length c - i < 4
+  pub four_none : four_at c i ≡ Cut → length c - i < 4
   unfolding four_at
-  four-none e = go (ltb (length c - i) 4) refl e
+  four_none e = go (ltb (length c - i) 4) refl e
     where
       go : (t : Bool) → ltb (length c - i) 4 ≡ t → cond t Cut (Bytes (u32_at c i)) ≡ Cut → length c - i < 4
       go true h q = ltb-true (length c - i) 4 h
@@ -70,40 +70,40 @@ module _ (c : List ℕ) (i : ℕ) where
 
   no_room : length c - i < 4 → begins c i ≡ false
   unfolding begins
-  no_room h = same-lengths _ _ (λ e. omega (arith, length-take 4 (drop i c), length-drop i c))
+  no_room h = same_lengths _ _ (λ e. omega (arith, length-take 4 (drop i c), length-drop i c))
 
   module _ (room : 4 ≤ length c - i) where
     four_bytes : take 4 (drop i c) ≡ get_or c i 0 ∷ get_or c (i + 1) 0 ∷ get_or c (i + 2) 0 ∷ get_or c (i + 3) 0 ∷ []
     four_bytes =
         let two : i + 1 + 1 ≡ i + 2 = omega arith in
         let three : i + 2 + 1 ≡ i + 3 = omega arith in
-        rw (drop-one c i (omega arith), drop-one c (i + 1) (omega arith), two, drop-one c (i + 2) (omega arith), three, drop-one c (i + 3) (omega arith))
+        rw (drop_one c i (omega arith), drop_one c (i + 1) (omega arith), two, drop_one c (i + 2) (omega arith), three, drop_one c (i + 3) (omega arith))
 
-    pub jsx-here : ((k : ℕ) → get_or c k 0 < 256) → u32_at c i ≡ 0x78736a40 → begins c i ≡ true
+    pub jsx_here : ((k : ℕ) → get_or c k 0 < 256) → u32_at c i ≡ 0x78736a40 → begins c i ≡ true
     unfolding begins same
-    jsx-here f e =
+    jsx_here f e =
         let x : get_or c (i + 3) 0 ≡ 0x78 = omega (arith, f i, f (i + 1), f (i + 2)) in
         let s : get_or c (i + 2) 0 ≡ 0x73 = omega (arith, f i, f (i + 1)) in
         let j : get_or c (i + 1) 0 ≡ 0x6a = omega (arith, f i) in
         let at : get_or c i 0 ≡ 0x40 = omega arith in
         rw (four_bytes, at, j, s, x) refl
 
-    pub jsx-absent : (u32_at c i ≡ 0x78736a40 → ⊥) → begins c i ≡ false
+    pub jsx_absent : (u32_at c i ≡ 0x78736a40 → ⊥) → begins c i ≡ false
     unfolding begins
-    jsx-absent f = go (same (take 4 (drop i c)) (ascii "@jsx")) refl
+    jsx_absent f = go (same (take 4 (drop i c)) (ascii "@jsx")) refl
       where
         go : (t : Bool) → same (take 4 (drop i c)) (ascii "@jsx") ≡ t → t ≡ false
         go true e =
             let l : get_or c i 0 ∷ get_or c (i + 1) 0 ∷ get_or c (i + 2) 0 ∷ get_or c (i + 3) 0 ∷ [] ≡ ascii "@jsx" =
-            sym four_bytes ∙ same-eq (take 4 (drop i c)) (ascii "@jsx") e in
+            sym four_bytes ∙ same_eq (take 4 (drop i c)) (ascii "@jsx") e in
             absurd (f (ap (λ (k : List ℕ). u32_at k 0) l))
         go false e = refl
 
 -- ---- whether an at sign counts
 module _ (c : List ℕ) (i sign : ℕ) where
-  pub ill-placed : stands c i sign ≡ false → counts c i sign ≡ false
+  pub ill_placed : stands c i sign ≡ false → counts c i sign ≡ false
   unfolding stands counts
-  ill-placed e = rw e
+  ill_placed e = rw e
 
   pub other_word : begins c sign ≡ false → counts c i sign ≡ false
   unfolding stands begins counts
@@ -122,76 +122,76 @@ pub record Reach (c : List ℕ) (start i : ℕ) : Type 0 where
 pub begin : (c : List ℕ) (start : ℕ) → Reach c start start
 begin c start = record { turns = length c; enough = omega arith; same = refl }
 
-pub seek-none : (n : ℕ) (c : List ℕ) (i : ℕ) → place_from is_at c i ≡ Nothing → seek n c i ≡ nothing
+pub seek_none : (n : ℕ) (c : List ℕ) (i : ℕ) → place_from is_at c i ≡ Nothing → seek n c i ≡ nothing
 unfolding seek on_sign
-seek-none zero c i e = refl
-seek-none (suc n) c i e = rw e
+seek_none zero c i e = refl
+seek_none (suc n) c i e = rw e
 
 -- "A rejected @ is dropped and the search goes on right after it", where still fewer bytes are left
-pub seek-short : (n : ℕ) (c : List ℕ) (i : ℕ) → length c - i < 4 → seek n c i ≡ nothing
+pub seek_short : (n : ℕ) (c : List ℕ) (i : ℕ) → length c - i < 4 → seek n c i ≡ nothing
 unfolding seek on_sign
-seek-short zero c i h = refl
-seek-short (suc n) c i h = go (place_from is_at c i) refl (seek-short n c)
+seek_short zero c i h = refl
+seek_short (suc n) c i h = go (place_from is_at c i) refl (seek_short n c)
   where
     go : (f : Found) → place_from is_at c i ≡ f → ((j : ℕ) → length c - j < 4 → seek n c j ≡ nothing) → on_sign c i f (λ (j : ℕ). seek n c j) ≡ nothing
     go Nothing e ih = refl
     go (At sign) e ih =
-        let later : i ≤ sign = (place-range is_at c i sign e).0 in
+        let later : i ≤ sign = (place_range is_at c i sign e).0 in
         rw (other_word c i sign (no_room c sign (omega arith))) (ih (sign + 1) (omega arith))
 
 pub none : (c : List ℕ) (start i : ℕ) → Reach c start i → place_from is_at c i ≡ Nothing → seek (length c) c start ≡ nothing
-none c start i r e = r.same ∙ seek-none r.turns c i e
+none c start i r e = r.same ∙ seek_none r.turns c i e
 
-on-known : (k : PragmaType) (next : ℕ) (go : ℕ → Search) → on_keyword (known_for k) next go ≡ pragma (known_for k) next
+on_known : (k : PragmaType) (next : ℕ) (go : ℕ → Search) → on_keyword (known_for k) next go ≡ pragma (known_for k) next
 unfolding on_keyword known_for
-on-known Jsx next go = refl
-on-known JsxRuntime next go = refl
-on-known JsxImportSource next go = refl
-on-known JsxFrag next go = refl
+on_known Jsx next go = refl
+on_known JsxRuntime next go = refl
+on_known JsxImportSource next go = refl
+on_known JsxFrag next go = refl
 
 module _ (c : List ℕ) (start i sign : ℕ) (r : Reach c start i) (hit : place_from is_at c i ≡ At sign) where
-  after-sign : (m : ℕ) × (length c ≤ m + (sign + 1))
+  after_sign : (m : ℕ) × (length c ≤ m + (sign + 1))
       × (seek (length c) c start ≡ on_sign c i (At sign) (λ (j : ℕ). seek m c j))
   unfolding seek
-  after-sign = go r.turns r.enough r.same
+  after_sign = go r.turns r.enough r.same
     where
       go : (n : ℕ) → length c ≤ n + i → seek (length c) c start ≡ seek n c i → (m : ℕ) × (length c ≤ m + (sign + 1))
           × (seek (length c) c start ≡ on_sign c i (At sign) (λ (j : ℕ). seek m c j))
-      go zero h e = absurd (omega (arith, place-range is_at c i sign hit))
-      go (suc m) h e = (m, omega (arith, place-range is_at c i sign hit), e ∙ rw hit)
+      go zero h e = absurd (omega (arith, place_range is_at c i sign hit))
+      go (suc m) h e = (m, omega (arith, place_range is_at c i sign hit), e ∙ rw hit)
 
   pub reject : counts c i sign ≡ false → Reach c start (sign + 1)
   unfolding on_sign
-  reject e = record { turns = after-sign.0; enough = after-sign.1; same = after-sign.2 ∙ rw e }
+  reject e = record { turns = after_sign.0; enough = after_sign.1; same = after_sign.2 ∙ rw e }
 
   pub cut : four_at c sign ≡ Cut → seek (length c) c start ≡ nothing
   cut e =
-      let h : length c - sign < 4 = four-none c sign e in
+      let h : length c - sign < 4 = four_none c sign e in
       let past = reject (other_word c i sign (no_room c sign h)) in
-      past.same ∙ seek-short past.turns c (sign + 1) (omega arith)
+      past.same ∙ seek_short past.turns c (sign + 1) (omega arith)
 
-  module _ (counts-here : counts c i sign ≡ true) where
+  module _ (counts_here : counts c i sign ≡ true) where
     pub no_word : place_from is_blank c (sign + 4) ≡ Nothing → seek (length c) c start ≡ nothing
     unfolding on_sign on_word
-    no_word e = after-sign.2 ∙ rw (counts-here, e)
+    no_word e = after_sign.2 ∙ rw (counts_here, e)
 
     module _ (end : ℕ) (w : place_from is_blank c (sign + 4) ≡ At end) where
-      on-keyword : seek (length c) c start
-          ≡ on_keyword (keyword_of (take (end - (sign + 4)) (drop (sign + 4) c))) (end + 1) (λ (j : ℕ). seek after-sign.0 c j)
+      by_keyword : seek (length c) c start
+          ≡ on_keyword (keyword_of (take (end - (sign + 4)) (drop (sign + 4) c))) (end + 1) (λ (j : ℕ). seek after_sign.0 c j)
       unfolding on_sign on_word
-      on-keyword = after-sign.2 ∙ rw (counts-here, w)
+      by_keyword = after_sign.2 ∙ rw (counts_here, w)
 
       pub known : (k : PragmaType) → keyword_of (take (end - (sign + 4)) (drop (sign + 4) c)) ≡ known_for k
           → seek (length c) c start ≡ pragma (known_for k) (end + 1)
-      known k e = on-keyword ∙ rw e (on-known k (end + 1) (λ (j : ℕ). seek after-sign.0 c j))
+      known k e = by_keyword ∙ rw e (on_known k (end + 1) (λ (j : ℕ). seek after_sign.0 c j))
 
       pub not_known : keyword_of (take (end - (sign + 4)) (drop (sign + 4) c)) ≡ unknown → Reach c start (end + 1)
       unfolding on_keyword
       not_known e =
           record {
-            turns = after-sign.0;
-            enough = omega (arith, after-sign.1, place-range is_blank c (sign + 4) end w);
-            same = on-keyword ∙ rw e;
+            turns = after_sign.0;
+            enough = omega (arith, after_sign.1, place_range is_blank c (sign + 4) end w);
+            same = by_keyword ∙ rw e;
           }
 
 -- ---- where a pragma is found
@@ -199,32 +199,32 @@ abbrev pub Later : List ℕ → ℕ → ℕ → Type 0
 Later c i a = (i < a) × (a ≤ length c)
 
 module _ (c : List ℕ) (k : Keyword) (a : ℕ) (go : ℕ → Search) (ih : (j : ℕ) → go j ≡ pragma k a → Later c j a) where
-  keyword-after : (w : Keyword) (next : ℕ) → next ≤ length c → on_keyword w next go ≡ pragma k a → (next ≤ a) × (a ≤ length c)
+  keyword_after : (w : Keyword) (next : ℕ) → next ≤ length c → on_keyword w next go ≡ pragma k a → (next ≤ a) × (a ≤ length c)
   unfolding on_keyword
-  keyword-after jsx next h e = let z : next ≡ a = cc in omega arith
-  keyword-after frag next h e = let z : next ≡ a = cc in omega arith
-  keyword-after import_source next h e = let z : next ≡ a = cc in omega arith
-  keyword-after runtime next h e = let z : next ≡ a = cc in omega arith
-  keyword-after unknown next h e = omega (arith, ih next e)
+  keyword_after jsx next h e = let z : next ≡ a = cc in omega arith
+  keyword_after frag next h e = let z : next ≡ a = cc in omega arith
+  keyword_after import_source next h e = let z : next ≡ a = cc in omega arith
+  keyword_after runtime next h e = let z : next ≡ a = cc in omega arith
+  keyword_after unknown next h e = omega (arith, ih next e)
 
   word_after : (w : ℕ) (f : Found) → place_from is_blank c w ≡ f → on_word c w f go ≡ pragma k a → Later c w a
   unfolding on_word
   word_after w (At e) h q =
-      let r : (w ≤ e) × (e < length c) = place-range is_blank c w e h in
-      omega (arith, keyword-after (keyword_of (take (e - w) (drop w c))) (e + 1) (omega arith) q)
+      let r : (w ≤ e) × (e < length c) = place_range is_blank c w e h in
+      omega (arith, keyword_after (keyword_of (take (e - w) (drop w c))) (e + 1) (omega arith) q)
   word_after w Nothing h q = let z : ◌≡◌ {A = ℕ} 0 1 = cc in omega arith
 
-  tried-after : (sign : ℕ) (b : Bool) → cond b (on_word c (sign + 4) (place_from is_blank c (sign + 4)) go) (go (sign + 1)) ≡ pragma k a
+  tried_after : (sign : ℕ) (b : Bool) → cond b (on_word c (sign + 4) (place_from is_blank c (sign + 4)) go) (go (sign + 1)) ≡ pragma k a
       → Later c sign a
-  tried-after sign true q = omega (arith, word_after (sign + 4) (place_from is_blank c (sign + 4)) refl q)
-  tried-after sign false q = omega (arith, ih (sign + 1) q)
+  tried_after sign true q = omega (arith, word_after (sign + 4) (place_from is_blank c (sign + 4)) refl q)
+  tried_after sign false q = omega (arith, ih (sign + 1) q)
 
-  sign-after : (i : ℕ) (f : Found) → place_from is_at c i ≡ f → on_sign c i f go ≡ pragma k a → Later c i a
+  sign_after : (i : ℕ) (f : Found) → place_from is_at c i ≡ f → on_sign c i f go ≡ pragma k a → Later c i a
   unfolding on_sign
-  sign-after i (At sign) h q = omega (arith, place-range is_at c i sign h, tried-after sign (counts c i sign) q)
-  sign-after i Nothing h q = let z : ◌≡◌ {A = ℕ} 0 1 = cc in omega arith
+  sign_after i (At sign) h q = omega (arith, place_range is_at c i sign h, tried_after sign (counts c i sign) q)
+  sign_after i Nothing h q = let z : ◌≡◌ {A = ℕ} 0 1 = cc in omega arith
 
-pub seek-after : (n : ℕ) (c : List ℕ) (i : ℕ) (k : Keyword) (a : ℕ) → seek n c i ≡ pragma k a → Later c i a
+pub seek_after : (n : ℕ) (c : List ℕ) (i : ℕ) (k : Keyword) (a : ℕ) → seek n c i ≡ pragma k a → Later c i a
 unfolding seek
-seek-after zero c i k a e = let z : ◌≡◌ {A = ℕ} 0 1 = cc in omega arith
-seek-after (suc n) c i k a e = sign-after c k a (λ (j : ℕ). seek n c j) (λ j q. seek-after n c j k a q) i (place_from is_at c i) refl e
+seek_after zero c i k a e = let z : ◌≡◌ {A = ℕ} 0 1 = cc in omega arith
+seek_after (suc n) c i k a e = sign_after c k a (λ (j : ℕ). seek n c j) (λ j q. seek_after n c j k a q) i (place_from is_at c i) refl e

@@ -1,7 +1,7 @@
 -- What lowering binds can be bound under its settings: an induction over the tree.
 --     Fits                      every thing that an output mentions can be bound
---     _with_, pick, plain_fits  parts and choices of what fits fit; plain output fits
---     root-fits                 the output of a root fits
+--     ◌with◌, pick, plain_fits  parts and choices of what fits fit; plain output fits
+--     root_fits                 the output of a root fits
 -- Assumes nothing.
 use mathlib.Core.Path.{◌≡◌, refl}
 use mathlib.Core.Bool.{Bool, true, false, cond, not, ◌&&◌}
@@ -26,11 +26,11 @@ use Rattle.definitions.specs.Lowering.{Context, Output, emit, put, imported, fra
 use Rattle.definitions.specs.Lowering.{form_of, children_property, source_output, self_output, development, is_classic, pure_byte, closing}
 use Rattle.definitions.specs.Lowering.{automatic_name, automatic_call, object_of, classic_call, plugins_off, is_last, lone_spread_or, classic_element}
 use Rattle.definitions.specs.Lowering.{lower_node, lower_attributes, lower_key, lower_value, lower_children, can_add_self, lower_root, commands_of}
-use Rattle.definitions.proofs.Numbering.{imports_of, imports-append}
-use Rattle.definitions.proofs.Soundness.{bindable-append}
-use Rattle.definitions.proofs.Plain.{Plain, none, plain_byte, plain_over, commands-append, plain-imports, plain-colonized, plain-name}
-use Rattle.definitions.proofs.Plain.{plain-literal, plain-attribute, plain-notice, plain-string, plain-text, plain-self, plain-static}
-use Rattle.definitions.proofs.Plain.{plain-no-key}
+use Rattle.definitions.proofs.Numbering.{imports_of, imports_append}
+use Rattle.definitions.proofs.Soundness.{bindable_append}
+use Rattle.definitions.proofs.Plain.{Plain, none, plain_byte, plain_over, commands_append, plain_imports, plain_colonized, plain_name}
+use Rattle.definitions.proofs.Plain.{plain_literal, plain_attribute, plain_notice, plain_string, plain_text, plain_self, plain_static}
+use Rattle.definitions.proofs.Plain.{plain_no_key}
 
 pub record Fits (c : Context) (os : List Output) : Type 0 where
   pub so : all_bindable c.settings (imports_of (commands_of os)) ≡ true
@@ -42,9 +42,9 @@ module _ {c : Context} where
       record {
         so =
             rw (
-              commands-append xs ys,
-              imports-append (commands_of xs) (commands_of ys),
-              bindable-append c.settings (imports_of (commands_of xs))
+              commands_append xs ys,
+              imports_append (commands_of xs) (commands_of ys),
+              bindable_append c.settings (imports_of (commands_of xs))
                   (imports_of (commands_of ys)),
               h.so,
               k.so,
@@ -53,22 +53,22 @@ module _ {c : Context} where
 
   plain_fits : {os : List Output} → Plain os → Fits c os
   unfolding all_bindable
-  plain_fits {os} h = record { so = rw (plain-imports os h.so) }
+  plain_fits {os} h = record { so = rw (plain_imports os h.so) }
 
   pick : {xs ys : List Output} (b : Bool) → Fits c xs → Fits c ys → Fits c (cond b xs ys)
   pick true h k = h
   pick false h k = k
 
-  put-fits : (b : Bare) → Fits c (put b)
+  put_fits : (b : Bare) → Fits c (put b)
   unfolding commands_of imports_of all_bindable
-  put-fits b = record { so = refl }
+  put_fits b = record { so = refl }
 
 module _ (c : Context) where
   -- ---- callees, tags and `__source`
 
-  imported-fits : (n k : ℕ) → can_name (development c) n ≡ true → Fits c (imported c.settings.mode n k)
+  imported_fits : (n k : ℕ) → can_name (development c) n ≡ true → Fits c (imported c.settings.mode n k)
   unfolding commands_of imports_of all_bindable imported can_bind can_import can_require
-  imported-fits n k h = go c.settings.mode refl
+  imported_fits n k h = go c.settings.mode refl
     where
       below : (b : Bool) → ltb (cond b 0 1) 2 ≡ true
       below true = refl
@@ -79,13 +79,13 @@ module _ (c : Context) where
       go Script e = record { so = rw (e, below (eqb n create_element)) }
       go Classic e = record { so = refl }
 
-  closing-fits : {tag : List Output} (n : ℕ) → Fits c tag → can_name (development c) n ≡ true → Fits c (closing c tag n)
-  closing-fits n h k =
-      put-fits call.tag with h with put-fits call.callee with imported-fits n 0 k
+  closing_fits : {tag : List Output} (n : ℕ) → Fits c tag → can_name (development c) n ≡ true → Fits c (closing c tag n)
+  closing_fits n h k =
+      put_fits call.tag with h with put_fits call.callee with imported_fits n 0 k
       with plain_fits (plain_byte call.call_end (pure_byte c.settings.pure))
 
   tag_fits : Fits c (fragment_tag c.settings.mode)
-  tag_fits = imported-fits fragment_name 1 refl
+  tag_fits = imported_fits fragment_name 1 refl
 
   source_fits : (p : Place) → Fits c (source_output c p)
   unfolding commands_of imports_of all_bindable source_output can_bind
@@ -98,109 +98,109 @@ module _ (c : Context) where
 
   -- ---- calls
 
-  automatic-name : (n : ℕ) → can_name (development c) (automatic_name c n) ≡ true
+  automatic_name_bindable : (n : ℕ) → can_name (development c) (automatic_name c n) ≡ true
   unfolding automatic_name
-  automatic-name n = go (development c) (leb 2 n)
+  automatic_name_bindable n = go (development c) (leb 2 n)
     where
       go : (d b : Bool) → can_name d (cond d jsx_dev (cond b jsxs jsx)) ≡ true
       go true b = refl
       go false true = refl
       go false false = refl
 
-  children-fits : {items : List Output} (n form : ℕ) → Fits c items → Fits c (children_property n form items)
+  children_fits : {items : List Output} (n form : ℕ) → Fits c items → Fits c (children_property n form items)
   unfolding children_property
-  children-fits n form h =
-      pick (eqb n 0) (plain_fits none) (put-fits call.children_begin with h with plain_fits (plain_byte call.children_end form))
+  children_fits n form h =
+      pick (eqb n 0) (plain_fits none) (put_fits call.children_begin with h with plain_fits (plain_byte call.children_end form))
 
-  automatic-fits : {properties items key added tag : List Output} (k : Children)
+  automatic_fits : {properties items key added tag : List Output} (k : Children)
       → Fits c properties → Fits c items → Fits c key → Fits c added → Fits c tag → Fits c (automatic_call c properties k items key added tag)
   unfolding automatic_call
-  automatic-fits k hp hi hk ha ht =
+  automatic_fits k hp hi hk ha ht =
       plain_fits (plain_byte call.call 1)
-      with put-fits call.object_begin
+      with put_fits call.object_begin
       with hp
-      with children-fits (survivors c k) (form_of (survivors c k) (has_spread k)) hi
-      with put-fits call.object_end
+      with children_fits (survivors c k) (form_of (survivors c k) (has_spread k)) hi
+      with put_fits call.object_end
       with hk
-      with plain_fits (plain-static c (survivors c k))
+      with plain_fits (plain_static c (survivors c k))
       with ha
-      with closing-fits (automatic_name c (survivors c k)) ht (automatic-name (survivors c k))
+      with closing_fits (automatic_name c (survivors c k)) ht (automatic_name_bindable (survivors c k))
 
-  object-fits : (os : List Output) → Fits c os → Fits c (object_of os)
+  object_fits : (os : List Output) → Fits c os → Fits c (object_of os)
   unfolding object_of
-  object-fits [] h = put-fits call.null
-  object-fits (o ∷ os) h = put-fits call.object_begin with h with put-fits call.object_end
+  object_fits [] h = put_fits call.null
+  object_fits (o ∷ os) h = put_fits call.object_begin with h with put_fits call.object_end
 
-  classic-fits : {argument items tag : List Output} → Fits c argument → Fits c items → Fits c tag → Fits c (classic_call c argument items tag)
+  classic_fits : {argument items tag : List Output} → Fits c argument → Fits c items → Fits c tag → Fits c (classic_call c argument items tag)
   unfolding classic_call
-  classic-fits ha hi ht = plain_fits (plain_byte call.call 0) with ha with hi with closing-fits create_element ht refl
+  classic_fits ha hi ht = plain_fits (plain_byte call.call 0) with ha with hi with closing_fits create_element ht refl
 
-  lone-fits : {object : List Output} (a : Attributes) → Fits c object → Fits c (lone_spread_or c a object)
+  lone_fits : {object : List Output} (a : Attributes) → Fits c object → Fits c (lone_spread_or c a object)
   unfolding lone_spread_or
-  lone-fits no_attributes h = h
-  lone-fits (attribute s v a) h = h
-  lone-fits (namespaced_attribute s r v a) h = h
-  lone-fits (spread e a) h = pick (is_last a && plugins_off c) (plain_fits (plain_over call.sole_spread e)) h
-  lone-fits (literal e ps a) h = pick (is_last a && plugins_off c && not (has_proto c ps)) (plain_fits (plain_over call.sole_spread e)) h
+  lone_fits no_attributes h = h
+  lone_fits (attribute s v a) h = h
+  lone_fits (namespaced_attribute s r v a) h = h
+  lone_fits (spread e a) h = pick (is_last a && plugins_off c) (plain_fits (plain_over call.sole_spread e)) h
+  lone_fits (literal e ps a) h = pick (is_last a && plugins_off c && not (has_proto c ps)) (plain_fits (plain_over call.sole_spread e)) h
 
   -- ---- the tree
 
   mutual
     unfolding lower_node lower_attributes lower_key lower_value lower_children
 
-    node-fits : (n : Node) → Fits c (lower_node c n)
-    node-fits (element p n a k) =
+    node_fits : (n : Node) → Fits c (lower_node c n)
+    node_fits (element p n a k) =
         pick (classic_element c a)
-        (classic-fits
-        (lone-fits a
-        (object-fits (lower_attributes c true a ++ self_output c ++ source_output c p)
-        (attributes-fit true a with plain_fits (plain-self c) with source_fits p)))
-        (kids-fit k)
-        (plain_fits (plain-name c n)))
-        (automatic-fits k
-        (attributes-fit false a)
-        (kids-fit k)
-        (key_fits a (plain_fits (plain-no-key c)))
-        (source_fits p with plain_fits (plain-self c))
-        (plain_fits (plain-name c n)))
-    node-fits (fragment p k) =
+        (classic_fits
+        (lone_fits a
+        (object_fits (lower_attributes c true a ++ self_output c ++ source_output c p)
+        (attributes_fit true a with plain_fits (plain_self c) with source_fits p)))
+        (kids_fit k)
+        (plain_fits (plain_name c n)))
+        (automatic_fits k
+        (attributes_fit false a)
+        (kids_fit k)
+        (key_fits a (plain_fits (plain_no_key c)))
+        (source_fits p with plain_fits (plain_self c))
+        (plain_fits (plain_name c n)))
+    node_fits (fragment p k) =
         pick (is_classic c.settings.mode)
-        (classic-fits (object-fits [] (plain_fits none)) (kids-fit k) tag_fits)
-        (automatic-fits k (plain_fits none) (kids-fit k) (plain_fits (plain-no-key c)) (plain_fits none) tag_fits)
+        (classic_fits (object_fits [] (plain_fits none)) (kids_fit k) tag_fits)
+        (automatic_fits k (plain_fits none) (kids_fit k) (plain_fits (plain_no_key c)) (plain_fits none) tag_fits)
 
-    attributes-fit : (classic : Bool) (a : Attributes) → Fits c (lower_attributes c classic a)
-    attributes-fit classic no_attributes = plain_fits none
-    attributes-fit classic (attribute s v a) =
+    attributes_fit : (classic : Bool) (a : Attributes) → Fits c (lower_attributes c classic a)
+    attributes_fit classic no_attributes = plain_fits none
+    attributes_fit classic (attribute s v a) =
         pick (is_key c s && has_value v && not classic)
-        (attributes-fit classic a)
-        (plain_fits (plain-notice c s v) with plain_fits (plain-attribute c s) with value-fits v with attributes-fit classic a)
-    attributes-fit classic (namespaced_attribute s r v a) =
-        put-fits call.string_name with plain_fits (plain-colonized s r) with value-fits v with attributes-fit classic a
-    attributes-fit classic (spread e a) = plain_fits (plain_over call.spread_property e) with attributes-fit classic a
-    attributes-fit classic (literal e ps a) = plain_fits (plain-literal c e ps) with attributes-fit classic a
+        (attributes_fit classic a)
+        (plain_fits (plain_notice c s v) with plain_fits (plain_attribute c s) with value_fits v with attributes_fit classic a)
+    attributes_fit classic (namespaced_attribute s r v a) =
+        put_fits call.string_name with plain_fits (plain_colonized s r) with value_fits v with attributes_fit classic a
+    attributes_fit classic (spread e a) = plain_fits (plain_over call.spread_property e) with attributes_fit classic a
+    attributes_fit classic (literal e ps a) = plain_fits (plain_literal c e ps) with attributes_fit classic a
 
     key_fits : {other : List Output} (a : Attributes) → Fits c other → Fits c (lower_key c a other)
     key_fits no_attributes h = h
-    key_fits (attribute s v a) h = key_fits a (pick (is_key c s && has_value v) (put-fits call.key with value-fits v) h)
+    key_fits (attribute s v a) h = key_fits a (pick (is_key c s && has_value v) (put_fits call.key with value_fits v) h)
     key_fits (namespaced_attribute s r v a) h = key_fits a h
     key_fits (spread e a) h = key_fits a h
     key_fits (literal e ps a) h = key_fits a h
 
-    value-fits : (v : Value) → Fits c (lower_value c v)
-    value-fits absent = put-fits call.literal_true
-    value-fits (string s) = plain_fits (plain-string s)
-    value-fits (expression e) = plain_fits (plain_over call.expression e)
-    value-fits empty = put-fits call.literal_true
-    value-fits (node_value n) = node-fits n
+    value_fits : (v : Value) → Fits c (lower_value c v)
+    value_fits absent = put_fits call.literal_true
+    value_fits (string s) = plain_fits (plain_string s)
+    value_fits (expression e) = plain_fits (plain_over call.expression e)
+    value_fits empty = put_fits call.literal_true
+    value_fits (node_value n) = node_fits n
 
-    kids-fit : (k : Children) → Fits c (lower_children c k)
-    kids-fit no_children = plain_fits none
-    kids-fit (text_child s k) = plain_fits (plain-text (jsx_text c.text s)) with kids-fit k
-    kids-fit (expression_child e k) = plain_fits (plain_over call.expression e) with kids-fit k
-    kids-fit (empty_child k) = kids-fit k
-    kids-fit (spread_child e k) = plain_fits (plain_over call.spread_item e) with kids-fit k
-    kids-fit (node_child n k) = node-fits n with kids-fit k
+    kids_fit : (k : Children) → Fits c (lower_children c k)
+    kids_fit no_children = plain_fits none
+    kids_fit (text_child s k) = plain_fits (plain_text (jsx_text c.text s)) with kids_fit k
+    kids_fit (expression_child e k) = plain_fits (plain_over call.expression e) with kids_fit k
+    kids_fit (empty_child k) = kids_fit k
+    kids_fit (spread_child e k) = plain_fits (plain_over call.spread_item e) with kids_fit k
+    kids_fit (node_child n k) = node_fits n with kids_fit k
 
-pub root-fits : (text : List ℕ) (s : Settings) (r : Root) → all_bindable s (imports_of (commands_of (lower_root text s r))) ≡ true
+pub root_fits : (text : List ℕ) (s : Settings) (r : Root) → all_bindable s (imports_of (commands_of (lower_root text s r))) ≡ true
 unfolding lower_root
-root-fits text s r = (node-fits (record { text = text; settings = s; self_allowed = can_add_self r }) r.node).so
+root_fits text s r = (node_fits (record { text = text; settings = s; self_allowed = can_add_self r }) r.node).so

@@ -1,6 +1,6 @@
 -- Callees read off numbered commands with the records that are there: each is what its binding is.
---     callee-found     the callee of a binding that one record has
---     callees-read     callees by numbers and records are those by what bindings are
+--     callee_found     the callee of a binding that one record has
+--     callees_read_back     callees by numbers and records are those by what bindings are
 -- Assumes nothing.
 use mathlib.Core.Path.{◌≡◌, refl, sym, ap, subst, ◌∙◌}
 use mathlib.Core.Bool.{Bool, true, false, cond}
@@ -17,10 +17,10 @@ use Rattle.definitions.specs.Store.{number_in, numbered}
 use Rattle.definitions.specs.Records.{Entry, named, required, file}
 use Rattle.definitions.specs.Callees.{Callee, callee_by, name_behind, callee_behind, callees_read}
 use Rattle.definitions.specs.Claim.{count, is_of, says}
-use Rattle.definitions.proofs.Counting.{never, count-le}
+use Rattle.definitions.proofs.Counting.{never, count_le}
 use Rattle.definitions.proofs.Numbering.{imports_of, AllBound}
 use Rattle.definitions.proofs.TapeEntries.{entry_of}
-use Rattle.definitions.proofs.BoundEntries.{entries_for, of_entry, of-once, says_is, bound-said}
+use Rattle.definitions.proofs.BoundEntries.{entries_for, of_entry, of_once, says_is, bound_said}
 use Rattle.definitions.proofs.SymbolicCallees.{callee_for, name_after, callee_after, callees_of}
 
 -- ---- a binding's callee
@@ -37,10 +37,10 @@ module _ (b n : ℕ) where
   passed (required s c) es h = rw h
   passed (file c p) es h = refl
 
-  callee-none : (es : List Entry) → count (is_of b) es ≡ 0 → callee_by b n es ≡ []
+  callee_none : (es : List Entry) → count (is_of b) es ≡ 0 → callee_by b n es ≡ []
   unfolding count callee_by
-  callee-none [] h = refl
-  callee-none (x ∷ es) h = go (is_of b x) refl h (callee-none es)
+  callee_none [] h = refl
+  callee_none (x ∷ es) h = go (is_of b x) refl h (callee_none es)
     where
       go : (q : Bool) → is_of b x ≡ q → cond q (suc (count (is_of b) es)) (count (is_of b) es) ≡ 0 → (count (is_of b) es ≡ 0 → callee_by b n es ≡ [])
           → callee_by b n (x ∷ es) ≡ []
@@ -51,15 +51,15 @@ module _ (b n : ℕ) where
   unfolding is_of callee_by entry_callee
   met (named s m c) es h k = rw h
   met (required s c) es h k = rw h
-  met (file c p) es h k = callee-none es k
+  met (file c p) es h k = callee_none es k
 
-  callee-found : (e : Entry) (es : List Entry) → is_of b e ≡ true → count (is_of b) es ≤ 1 → 0 < count (says e) es → callee_by b n es ≡ entry_callee e
+  callee_found : (e : Entry) (es : List Entry) → is_of b e ≡ true → count (is_of b) es ≤ 1 → 0 < count (says e) es → callee_by b n es ≡ entry_callee e
   unfolding count
-  callee-found e [] o l h = absurd (omega arith)
-  callee-found e (x ∷ es) o l h = go (is_of b x) refl (says e x) refl l h (callee-found e es o)
+  callee_found e [] o l h = absurd (omega arith)
+  callee_found e (x ∷ es) o l h = go (is_of b x) refl (says e x) refl l h (callee_found e es o)
     where
       fewer : count (says e) es ≤ count (is_of b) es
-      fewer = count-le (says e) (is_of b) (λ y q. subst (λ (z : Entry). is_of b z ≡ true) (says_is e y q) o) es
+      fewer = count_le (says e) (is_of b) (λ y q. subst (λ (z : Entry). is_of b z ≡ true) (says_is e y q) o) es
 
       go : (p : Bool) → is_of b x ≡ p → (q : Bool) → says e x ≡ q
           → cond p (suc (count (is_of b) es)) (count (is_of b) es) ≤ 1
@@ -79,41 +79,41 @@ module _ (b n : ℕ) where
 
 -- ---- all callees
 
-name-same : (js : List Import) (cs : List (Command Import)) → name_behind (map (numbered js) cs) ≡ name_after cs
+name_same : (js : List Import) (cs : List (Command Import)) → name_behind (map (numbered js) cs) ≡ name_after cs
 unfolding name_behind numbered
-name-same js [] = refl
-name-same js (bare c ∷ cs) = refl
-name-same js (byte c n ∷ cs) = refl
-name-same js (over c e ∷ cs) = refl
-name-same js (span c s ∷ cs) = refl
-name-same js (binding i ∷ cs) = refl
-name-same js (source i p ∷ cs) = refl
+name_same js [] = refl
+name_same js (bare c ∷ cs) = refl
+name_same js (byte c n ∷ cs) = refl
+name_same js (over c e ∷ cs) = refl
+name_same js (span c s ∷ cs) = refl
+name_same js (binding i ∷ cs) = refl
+name_same js (source i p ∷ cs) = refl
 
 -- the records es of the things js
 module _ (place : ℕ) (js : List Import) (es : List Entry) (has : (p : Entry → Bool) → count p es ≡ count p (entries_for place 0 js)) where
-  bound-callee : (i : Import) (n : ℕ) → number_in js i < length js → callee_by (number_in js i) n es ≡ callee_for i n
-  bound-callee i n h =
+  bound_callee : (i : Import) (n : ℕ) → number_in js i < length js → callee_by (number_in js i) n es ≡ callee_for i n
+  bound_callee i n h =
       let b = number_in js i in
-      let once : count (is_of b) es ≡ 1 = has (is_of b) ∙ of-once b place 0 js (omega arith) (omega arith) in
-      let said : 0 < count (says (entry_of place i b)) es = rw (has (says (entry_of place i b)), ← zero-add b) (bound-said place 0 js i h) in
-      callee-found b n (entry_of place i b) es (of_entry b place i b ∙ eq-eqb b b refl) (omega arith) said ∙ callee_of b n place i b
+      let once : count (is_of b) es ≡ 1 = has (is_of b) ∙ of_once b place 0 js (omega arith) (omega arith) in
+      let said : 0 < count (says (entry_of place i b)) es = rw (has (says (entry_of place i b)), ← zero-add b) (bound_said place 0 js i h) in
+      callee_found b n (entry_of place i b) es (of_entry b place i b ∙ eq-eqb b b refl) (omega arith) said ∙ callee_of b n place i b
 
-  behind-read : (cs : List (Command Import)) → AllBound js (imports_of cs) → callee_behind es (map (numbered js) cs) ≡ callee_after cs
+  behind_read : (cs : List (Command Import)) → AllBound js (imports_of cs) → callee_behind es (map (numbered js) cs) ≡ callee_after cs
   unfolding callee_behind callee_after numbered imports_of
-  behind-read [] h = refl
-  behind-read (bare c ∷ cs) h = refl
-  behind-read (byte c n ∷ cs) h = refl
-  behind-read (over c e ∷ cs) h = refl
-  behind-read (span c s ∷ cs) h = refl
-  behind-read (binding i ∷ cs) h = rw (name-same js cs) (bound-callee i (name_after cs) h.0)
-  behind-read (source i p ∷ cs) h = refl
+  behind_read [] h = refl
+  behind_read (bare c ∷ cs) h = refl
+  behind_read (byte c n ∷ cs) h = refl
+  behind_read (over c e ∷ cs) h = refl
+  behind_read (span c s ∷ cs) h = refl
+  behind_read (binding i ∷ cs) h = rw (name_same js cs) (bound_callee i (name_after cs) h.0)
+  behind_read (source i p ∷ cs) h = refl
 
-  pub callees-read : (cs : List (Command Import)) → AllBound js (imports_of cs) → callees_read es (map (numbered js) cs) ≡ callees_of cs
+  pub callees_read_back : (cs : List (Command Import)) → AllBound js (imports_of cs) → callees_read es (map (numbered js) cs) ≡ callees_of cs
   unfolding callees_read callees_of numbered imports_of
-  callees-read [] h = refl
-  callees-read (bare c ∷ cs) h = rw (behind-read cs h, callees-read cs h)
-  callees-read (byte c n ∷ cs) h = callees-read cs h
-  callees-read (over c e ∷ cs) h = callees-read cs h
-  callees-read (span c s ∷ cs) h = callees-read cs h
-  callees-read (binding i ∷ cs) h = callees-read cs h.1
-  callees-read (source i p ∷ cs) h = callees-read cs h.1
+  callees_read_back [] h = refl
+  callees_read_back (bare c ∷ cs) h = rw (behind_read cs h, callees_read_back cs h)
+  callees_read_back (byte c n ∷ cs) h = callees_read_back cs h
+  callees_read_back (over c e ∷ cs) h = callees_read_back cs h
+  callees_read_back (span c s ∷ cs) h = callees_read_back cs h
+  callees_read_back (binding i ∷ cs) h = callees_read_back cs h.1
+  callees_read_back (source i p ∷ cs) h = callees_read_back cs h.1

@@ -1,9 +1,9 @@
 -- The spans that comments set are borne out by a well-formed text: a value begins behind a blank and ends at white space or at its comment's end.
---     InOrder, in-order, order-of           a span inside the text that cuts no character
---     ascii-uncut, after-ascii              no character is cut before or behind a byte below 80
+--     InOrder, in_order_bounds, order_of           a span inside the text that cuts no character
+--     ascii_uncut, after_ascii              no character is cut before or behind a byte below 80
 --     place_at                              what a search from a place on found
---     pragma-behind, value-begins, value-ends     where a pragma's value stands in its comment
---     Borne, comments-borne                 comments keep the options' spans borne out
+--     pragma_behind, value_begins, value_ends     where a pragma's value stands in its comment
+--     Borne, comments_borne                 comments keep the options' spans borne out
 -- Assumes nothing.
 use mathlib.Core.Path.{◌≡◌, refl, sym, ap, ◌∙◌}
 use mathlib.Core.Bool.{Bool, true, false, cond, not, ◌&&◌, ◌||◌}
@@ -21,9 +21,9 @@ use Rattle.text.specs.declared.spans.Bounds.TheVariants as bounds
 use Rattle.text.specs.Bytes.{find_from}
 use Rattle.text.specs.Utf8.{first_ill, width}
 use Rattle.text.specs.Spans.{part_of, cuts_at, bounds_of, is_boundary}
-use Rattle.text.proofs.Searching.{Hit, find_at, find-found}
+use Rattle.text.proofs.Searching.{Hit, find_at, find_found}
 use Rattle.text.proofs.Rows.{by_row}
-use Rattle.text.proofs.Boundaries.{cuts-boundary, boundary-next}
+use Rattle.text.proofs.Boundaries.{cuts_boundary, boundary_next}
 use Rattle.definitions.specs.declared.options.Optional.{Optional}
 use Rattle.definitions.specs.declared.options.Optional.TheVariants.{Present}
 use Rattle.definitions.specs.declared.options.Options.{Options}
@@ -40,9 +40,9 @@ pub record InOrder (text : List ℕ) (s : Span) : Type 0 where
   pub begins : cuts_at text s.start ≡ false
   pub ends : cuts_at text (s.start + s.len) ≡ false
 
-pub in-order : (text : List ℕ) (s : Span) → in_order (bounds_of text s) ≡ true → InOrder text s
+pub in_order_bounds : (text : List ℕ) (s : Span) → in_order (bounds_of text s) ≡ true → InOrder text s
 unfolding bounds_of in_order
-in-order text s h =
+in_order_bounds text s h =
     go (ltb (length text) (s.start + s.len)) refl (cuts_at text s.start) refl (cuts_at text (s.start + s.len)) refl h
   where
     go : (o : Bool) → ltb (length text) (s.start + s.len) ≡ o → (a : Bool) → cuts_at text s.start ≡ a → (b : Bool) → cuts_at text (s.start + s.len) ≡ b
@@ -53,9 +53,9 @@ in-order text s h =
     go false p false q true r h = never h
     go false p false q false r h = record { inside = ltb-false (length text) (s.start + s.len) p; begins = q; ends = r }
 
-pub order-of : (text : List ℕ) (s : Span) → InOrder text s → in_order (bounds_of text s) ≡ true
+pub order_of : (text : List ℕ) (s : Span) → InOrder text s → in_order (bounds_of text s) ≡ true
 unfolding bounds_of in_order
-order-of text s h = rw (le-ltb (length text) (s.start + s.len) h.inside, h.begins, h.ends) (go (eqb s.len 0))
+order_of text s h = rw (le-ltb (length text) (s.start + s.len) h.inside, h.begins, h.ends) (go (eqb s.len 0))
   where
     go : (b : Bool) → in_order (cond b bounds.Empty bounds.Good) ≡ true
     go true = refl
@@ -63,41 +63,41 @@ order-of text s h = rw (le-ltb (length text) (s.start + s.len) h.inside, h.begin
 
 -- ---- bytes below 80
 
-blank-ascii : (b : ℕ) → is_blank b ≡ true → b < 0x80
-blank-ascii b h = go (eqb b 0x20) refl h
+blank_ascii : (b : ℕ) → is_blank b ≡ true → b < 0x80
+blank_ascii b h = go (eqb b 0x20) refl h
   where
     go : (t : Bool) → eqb b 0x20 ≡ t → (t || eqb b 0x09) ≡ true → b < 0x80
     go true e h = omega (arith, eqb-true b 0x20 e)
     go false e h = omega (arith, eqb-true b 0x09 h)
 
-white-ascii : (b : ℕ) → is_white b ≡ true → b < 0x80
-white-ascii b h = go (leb 0x09 b && leb b 0x0d) refl h
+white_ascii : (b : ℕ) → is_white b ≡ true → b < 0x80
+white_ascii b h = go (leb 0x09 b && leb b 0x0d) refl h
   where
     go : (t : Bool) → (leb 0x09 b && leb b 0x0d) ≡ t → (t || eqb b 0x20) ≡ true → b < 0x80
     go true e h = omega (arith, leb-true b 0x0d (both (leb 0x09 b) (leb b 0x0d) e).1)
     go false e h = omega (arith, eqb-true b 0x20 h)
 
 -- where a byte below 80 stands, no character is cut
-pub ascii-uncut : (text : List ℕ) (p : ℕ) → get_or text p 0 < 0x80 → cuts_at text p ≡ false
+pub ascii_uncut : (text : List ℕ) (p : ℕ) → get_or text p 0 < 0x80 → cuts_at text p ≡ false
 unfolding cuts_at
-ascii-uncut text p h = rw (lt-leb 0x80 (get_or text p 0) h) (go (ltb p (length text)))
+ascii_uncut text p h = rw (lt-leb 0x80 (get_or text p 0) h) (go (ltb p (length text)))
   where
     go : (b : Bool) → (b && false) ≡ false
     go true = refl
     go false = refl
 
 -- nor behind it, in a well-formed text
-pub after-ascii : (text : List ℕ) (p : ℕ) → first_ill text ≡ found.Nothing → p < length text → get_or text p 0 < 0x80 → cuts_at text (p + 1) ≡ false
-after-ascii text p good h k = cuts-boundary text (p + 1) good (omega arith) ∙ rw (rw one at next)
+pub after_ascii : (text : List ℕ) (p : ℕ) → first_ill text ≡ found.Nothing → p < length text → get_or text p 0 < 0x80 → cuts_at text (p + 1) ≡ false
+after_ascii text p good h k = cuts_boundary text (p + 1) good (omega arith) ∙ rw (rw one at next)
   where
     here : is_boundary text p ≡ true
-    here = not-false (is_boundary text p) (sym (cuts-boundary text p good (omega arith)) ∙ ascii-uncut text p k)
+    here = not-false (is_boundary text p) (sym (cuts_boundary text p good (omega arith)) ∙ ascii_uncut text p k)
 
     one : width (drop p text) ≡ 1
     one = rw (drop-cons text p 0 h) (sym (by_row (get_or text p 0 ∷ drop (suc p) text) 0 (omega arith, tt, omega arith, omega arith)))
 
     next : is_boundary text (p + width (drop p text)) ≡ true
-    next = boundary-next text p here
+    next = boundary_next text p here
 
 -- ---- what a search from a place on found
 
@@ -132,14 +132,14 @@ pub record Behind (c : List ℕ) (j : ℕ) : Type 0 where
   pub inside : place < length c
   pub blank : is_blank (get_or c place 0) ≡ true
 
-no-pragma : {A : Type 0} (k : Keyword) (j : ℕ) → nothing ≡ pragma k j → A
-no-pragma k j e = let z : ◌≡◌ {A = ℕ} 0 1 = cc in absurd (omega arith)
+no_pragma : {A : Type 0} (k : Keyword) (j : ℕ) → nothing ≡ pragma k j → A
+no_pragma k j e = let z : ◌≡◌ {A = ℕ} 0 1 = cc in absurd (omega arith)
 
 -- a pragma's keyword ends with a blank
-pub pragma-behind : (n : ℕ) (c : List ℕ) (i : ℕ) (k : Keyword) (j : ℕ) → seek n c i ≡ pragma k j → Behind c j
+pub pragma_behind : (n : ℕ) (c : List ℕ) (i : ℕ) (k : Keyword) (j : ℕ) → seek n c i ≡ pragma k j → Behind c j
 unfolding seek on_sign on_word on_keyword
-pragma-behind zero c i k j e = no-pragma k j e
-pragma-behind (suc n) c i k j e = on-sign (place_from is_at c i) e (λ m h. pragma-behind n c m k j h)
+pragma_behind zero c i k j e = no_pragma k j e
+pragma_behind (suc n) c i k j e = by_sign (place_from is_at c i) e (λ m h. pragma_behind n c m k j h)
   where
     known : (w end : ℕ) (x : Keyword) → place_from is_blank c w ≡ found.At end → pragma x (end + 1) ≡ pragma k j → Behind c j
     known w end x f e =
@@ -147,33 +147,33 @@ pragma-behind (suc n) c i k j e = on-sign (place_from is_at c i) e (λ m h. prag
         let q : end + 1 ≡ j = cc in
         record { place = end; next = q; inside = t.inside; blank = t.passes }
 
-    on-keyword : (w end : ℕ) (x : Keyword) → place_from is_blank c w ≡ found.At end → on_keyword x (end + 1) (λ m. seek n c m) ≡ pragma k j
+    by_keyword : (w end : ℕ) (x : Keyword) → place_from is_blank c w ≡ found.At end → on_keyword x (end + 1) (λ m. seek n c m) ≡ pragma k j
         → ((m : ℕ) → seek n c m ≡ pragma k j → Behind c j) → Behind c j
-    on-keyword w end unknown f e ih = ih (end + 1) e
-    on-keyword w end jsx f e ih = known w end jsx f e
-    on-keyword w end frag f e ih = known w end frag f e
-    on-keyword w end import_source f e ih = known w end import_source f e
-    on-keyword w end runtime f e ih = known w end runtime f e
+    by_keyword w end unknown f e ih = ih (end + 1) e
+    by_keyword w end jsx f e ih = known w end jsx f e
+    by_keyword w end frag f e ih = known w end frag f e
+    by_keyword w end import_source f e ih = known w end import_source f e
+    by_keyword w end runtime f e ih = known w end runtime f e
 
-    on-word : (w : ℕ) (f : Found) → place_from is_blank c w ≡ f → on_word c w f (λ m. seek n c m) ≡ pragma k j
+    by_word : (w : ℕ) (f : Found) → place_from is_blank c w ≡ f → on_word c w f (λ m. seek n c m) ≡ pragma k j
         → ((m : ℕ) → seek n c m ≡ pragma k j → Behind c j) → Behind c j
-    on-word w (found.At end) f e ih = on-keyword w end (keyword_of (take (end - w) (drop w c))) f e ih
-    on-word w found.Nothing f e ih = no-pragma k j e
+    by_word w (found.At end) f e ih = by_keyword w end (keyword_of (take (end - w) (drop w c))) f e ih
+    by_word w found.Nothing f e ih = no_pragma k j e
 
-    on-counted : (sign : ℕ) (b : Bool)
+    on_counted : (sign : ℕ) (b : Bool)
         → cond b (on_word c (sign + 4) (place_from is_blank c (sign + 4)) (λ m. seek n c m)) (seek n c (sign + 1)) ≡ pragma k j
         → ((m : ℕ) → seek n c m ≡ pragma k j → Behind c j) → Behind c j
-    on-counted sign true e ih = on-word (sign + 4) (place_from is_blank c (sign + 4)) refl e ih
-    on-counted sign false e ih = ih (sign + 1) e
+    on_counted sign true e ih = by_word (sign + 4) (place_from is_blank c (sign + 4)) refl e ih
+    on_counted sign false e ih = ih (sign + 1) e
 
-    on-sign : (f : Found) → on_sign c i f (λ m. seek n c m) ≡ pragma k j → ((m : ℕ) → seek n c m ≡ pragma k j → Behind c j) → Behind c j
-    on-sign found.Nothing e ih = no-pragma k j e
-    on-sign (found.At sign) e ih = on-counted sign (counts c i sign) e ih
+    by_sign : (f : Found) → on_sign c i f (λ m. seek n c m) ≡ pragma k j → ((m : ℕ) → seek n c m ≡ pragma k j → Behind c j) → Behind c j
+    by_sign found.Nothing e ih = no_pragma k j e
+    by_sign (found.At sign) e ih = on_counted sign (counts c i sign) e ih
 
 -- the first byte behind blanks stands behind a blank
-pub value-begins : (c : List ℕ) (j : ℕ) → Behind c j → value_start c j < length c → Behind c (value_start c j)
+pub value_begins : (c : List ℕ) (j : ℕ) → Behind c j → value_start c j < length c → Behind c (value_start c j)
 unfolding or_else
-value-begins c j b h =
+value_begins c j b h =
     go (place_from (λ x. not (is_blank x)) c j) refl h
   where
     go : (f : Found) → place_from (λ x. not (is_blank x)) c j ≡ f → or_else (length c) f < length c → Behind c (or_else (length c) f)
@@ -196,13 +196,13 @@ value-begins c j b h =
             }
 
 -- behind a value the comment ends, or white space stands there
-pub value-ends : (c : List ℕ) (i : ℕ) → i ≤ length c
+pub value_ends : (c : List ℕ) (i : ℕ) → i ≤ length c
     → {A : Type 0}
     → (i + length (value_of (drop i c)) ≡ length c → A)
     → (i + length (value_of (drop i c)) < length c → is_white (get_or c (i + length (value_of (drop i c))) 0) ≡ true → A)
     → A
 unfolding or_else
-value-ends c i h f g =
+value_ends c i h f g =
     go (find_from is_white 0 (drop i c)) refl f g
   where
     go : (w : Found) → find_from is_white 0 (drop i c) ≡ w → {A : Type 0}
@@ -212,122 +212,122 @@ value-ends c i h f g =
         → A
     go found.Nothing e f g = f (omega (arith, ap length (take-length (drop i c)), length-drop i c))
     go (found.At n) e f g =
-        let t = find-found is_white (drop i c) n e in
+        let t = find_found is_white (drop i c) n e in
         let l : length (take n (drop i c)) ≡ n = length-take-le n (drop i c) (omega (arith, t.inside)) in
         g (omega (arith, t.inside, length-drop i c)) (rw (l, ← get_or-drop i c n 0) t.passes)
 
 -- ---- the options' spans
 
 pub record Borne (text : List ℕ) (o : Options) : Type 0 where
-  pub pair-pragma : borne_out text o.pragma ≡ true
-  pub pair-frag : borne_out text o.pragma_frag ≡ true
+  pub pair_pragma : borne_out text o.pragma ≡ true
+  pub pair_frag : borne_out text o.pragma_frag ≡ true
   pub source : borne_out text o.import_source ≡ true
-  pub ts-pragma : borne_out text o.ts_pragma ≡ true
-  pub ts-frag : borne_out text o.ts_pragma_frag ≡ true
+  pub ts_pragma : borne_out text o.ts_pragma ≡ true
+  pub ts_frag : borne_out text o.ts_pragma_frag ≡ true
 
-pub borne-whole : (text : List ℕ) (o : Options) → Borne text o → spans_borne_out text o ≡ true
-borne-whole text o h = rw (h.pair-pragma, h.pair-frag, h.source, h.ts-pragma, h.ts-frag)
+pub borne_whole : (text : List ℕ) (o : Options) → Borne text o → spans_borne_out text o ≡ true
+borne_whole text o h = rw (h.pair_pragma, h.pair_frag, h.source, h.ts_pragma, h.ts_frag)
 
 module _ (text : List ℕ) where
-  either-borne : (b : Bool) (x y : Optional) → borne_out text x ≡ true → borne_out text y ≡ true → borne_out text (cond b x y) ≡ true
-  either-borne true x y h k = h
-  either-borne false x y h k = k
+  either_borne : (b : Bool) (x y : Optional) → borne_out text x ≡ true → borne_out text y ≡ true → borne_out text (cond b x y) ≡ true
+  either_borne true x y h k = h
+  either_borne false x y h k = k
 
-  applied-borne : (o : Options) (k : Keyword) (s : Span) (v : List ℕ) → Borne text o → borne_out text (Present s) ≡ true → Borne text (applied o k s v)
+  applied_borne : (o : Options) (k : Keyword) (s : Span) (v : List ℕ) → Borne text o → borne_out text (Present s) ≡ true → Borne text (applied o k s v)
   unfolding applied
-  applied-borne o jsx s v h e =
+  applied_borne o jsx s v h e =
       record {
-        pair-pragma = either-borne (sets_pair o.flags) (Present s) o.pragma e h.pair-pragma;
-        pair-frag = h.pair-frag;
+        pair_pragma = either_borne (sets_pair o.flags) (Present s) o.pragma e h.pair_pragma;
+        pair_frag = h.pair_frag;
         source = h.source;
-        ts-pragma = e;
-        ts-frag = h.ts-frag;
+        ts_pragma = e;
+        ts_frag = h.ts_frag;
       }
-  applied-borne o frag s v h e =
+  applied_borne o frag s v h e =
       record {
-        pair-pragma = h.pair-pragma;
-        pair-frag = either-borne (sets_pair o.flags) (Present s) o.pragma_frag e h.pair-frag;
+        pair_pragma = h.pair_pragma;
+        pair_frag = either_borne (sets_pair o.flags) (Present s) o.pragma_frag e h.pair_frag;
         source = h.source;
-        ts-pragma = h.ts-pragma;
-        ts-frag = e;
+        ts_pragma = h.ts_pragma;
+        ts_frag = e;
       }
-  applied-borne o import_source s v h e =
-      record { pair-pragma = h.pair-pragma; pair-frag = h.pair-frag; source = e; ts-pragma = h.ts-pragma; ts-frag = h.ts-frag }
-  applied-borne o runtime s v h e =
-      record { pair-pragma = h.pair-pragma; pair-frag = h.pair-frag; source = h.source; ts-pragma = h.ts-pragma; ts-frag = h.ts-frag }
-  applied-borne o unknown s v h e = h
+  applied_borne o import_source s v h e =
+      record { pair_pragma = h.pair_pragma; pair_frag = h.pair_frag; source = e; ts_pragma = h.ts_pragma; ts_frag = h.ts_frag }
+  applied_borne o runtime s v h e =
+      record { pair_pragma = h.pair_pragma; pair_frag = h.pair_frag; source = h.source; ts_pragma = h.ts_pragma; ts_frag = h.ts_frag }
+  applied_borne o unknown s v h e = h
 
 -- ---- a comment
 
-module _ (text : List ℕ) (good : first_ill text ≡ found.Nothing) (s : Span) (in-text : InOrder text s) where
+module _ (text : List ℕ) (good : first_ill text ≡ found.Nothing) (s : Span) (in_text : InOrder text s) where
   c : List ℕ
   c = part_of text s
 
-  c-length : length c ≡ s.len
+  c_length : length c ≡ s.len
   unfolding c part_of
-  c-length = length-take-le s.len (drop s.start text) (omega (arith, in-text.inside, length-drop s.start text))
+  c_length = length-take-le s.len (drop s.start text) (omega (arith, in_text.inside, length-drop s.start text))
 
-  c-byte : (i : ℕ) → i < length c → get_or c i 0 ≡ get_or text (s.start + i) 0
+  c_byte : (i : ℕ) → i < length c → get_or c i 0 ≡ get_or text (s.start + i) 0
   unfolding c part_of
-  c-byte i h = get_or-take s.len (drop s.start text) i 0 (omega (arith, c-length)) ∙ get_or-drop s.start text i 0
+  c_byte i h = get_or-take s.len (drop s.start text) i 0 (omega (arith, c_length)) ∙ get_or-drop s.start text i 0
 
   -- the span of a value
-  value-in-order : (i : ℕ) → Behind c i → i < length c
+  value_in_order : (i : ℕ) → Behind c i → i < length c
       → InOrder text (record { start = s.start + i; len = length (value_of (drop i c)) })
-  value-in-order i b h = value-ends c i (omega arith) at-end at-white
+  value_in_order i b h = value_ends c i (omega arith) at_the_end at_white
     where
       n : ℕ
       n = length (value_of (drop i c))
 
       begun : cuts_at text (s.start + i) ≡ false
       begun =
-          let k : get_or text (s.start + b.place) 0 < 0x80 = rw (c-byte b.place b.inside) at (blank-ascii (get_or c b.place 0) b.blank) in
+          let k : get_or text (s.start + b.place) 0 < 0x80 = rw (c_byte b.place b.inside) at (blank_ascii (get_or c b.place 0) b.blank) in
           let e : s.start + b.place + 1 ≡ s.start + i = omega (arith, b.next) in
-          rw e at (after-ascii text (s.start + b.place) good (omega (arith, b.inside, c-length, in-text.inside)) k)
+          rw e at (after_ascii text (s.start + b.place) good (omega (arith, b.inside, c_length, in_text.inside)) k)
 
-      at-end : i + n ≡ length c → InOrder text (record { start = s.start + i; len = n })
-      at-end e =
-          let q : s.start + i + n ≡ s.start + s.len = omega (arith, c-length) in
-          record { inside = omega (arith, in-text.inside); begins = begun; ends = rw q in-text.ends }
+      at_the_end : i + n ≡ length c → InOrder text (record { start = s.start + i; len = n })
+      at_the_end e =
+          let q : s.start + i + n ≡ s.start + s.len = omega (arith, c_length) in
+          record { inside = omega (arith, in_text.inside); begins = begun; ends = rw q in_text.ends }
 
-      at-white : i + n < length c → is_white (get_or c (i + n) 0) ≡ true → InOrder text (record { start = s.start + i; len = n })
-      at-white l e =
-          let k : get_or text (s.start + (i + n)) 0 < 0x80 = rw (c-byte (i + n) l) at (white-ascii (get_or c (i + n) 0) e) in
+      at_white : i + n < length c → is_white (get_or c (i + n) 0) ≡ true → InOrder text (record { start = s.start + i; len = n })
+      at_white l e =
+          let k : get_or text (s.start + (i + n)) 0 < 0x80 = rw (c_byte (i + n) l) at (white_ascii (get_or c (i + n) 0) e) in
           let q : s.start + (i + n) ≡ s.start + i + n = omega arith in
           record {
-            inside = omega (arith, c-length, in-text.inside);
+            inside = omega (arith, c_length, in_text.inside);
             begins = begun;
-            ends = rw q at (ascii-uncut text (s.start + (i + n)) k);
+            ends = rw q at (ascii_uncut text (s.start + (i + n)) k);
           }
 
   -- what is left of a comment keeps the options borne out
-  from-borne : (n : ℕ) (o : Options) (i : ℕ) → Borne text o → Borne text (comment_from n o s.start c i)
+  from_borne : (n : ℕ) (o : Options) (i : ℕ) → Borne text o → Borne text (comment_from n o s.start c i)
   unfolding comment_from on_search on_value borne_out
-  from-borne zero o i h = h
-  from-borne (suc n) o i h = on-search (seek (length c) c i) refl (λ p j k. from-borne n p j k)
+  from_borne zero o i h = h
+  from_borne (suc n) o i h = by_search (seek (length c) c i) refl (λ p j k. from_borne n p j k)
     where
-      on-value : (k : Keyword) (j : ℕ) (v : List ℕ) → value_of (drop j c) ≡ v → (j < length c → Behind c j)
+      by_value : (k : Keyword) (j : ℕ) (v : List ℕ) → value_of (drop j c) ≡ v → (j < length c → Behind c j)
           → ((p : Options) (m : ℕ) → Borne text p → Borne text (comment_from n p s.start c m))
           → Borne text (on_value o k s.start j v (λ p m. comment_from n p s.start c m))
-      on-value k j [] e b ih = h
-      on-value k j (x ∷ v) e b ih =
+      by_value k j [] e b ih = h
+      by_value k j (x ∷ v) e b ih =
           let l : j < length c =
           omega (arith, ap length e, length-take (or_else (length (drop j c)) (find_from is_white 0 (drop j c))) (drop j c), length-drop j c) in
-          let t = rw e at (value-in-order j (b l) l) in
+          let t = rw e at (value_in_order j (b l) l) in
           ih (applied o k (record { start = s.start + j; len = length (x ∷ v) }) (x ∷ v)) (j + length (x ∷ v) + 1)
-          (applied-borne text o k (record { start = s.start + j; len = length (x ∷ v) }) (x ∷ v) h
-          (order-of text (record { start = s.start + j; len = length (x ∷ v) }) t))
+          (applied_borne text o k (record { start = s.start + j; len = length (x ∷ v) }) (x ∷ v) h
+          (order_of text (record { start = s.start + j; len = length (x ∷ v) }) t))
 
-      on-search : (f : Search) → seek (length c) c i ≡ f
+      by_search : (f : Search) → seek (length c) c i ≡ f
           → ((p : Options) (m : ℕ) → Borne text p → Borne text (comment_from n p s.start c m))
           → Borne text (on_search o s.start c f (λ p m. comment_from n p s.start c m))
-      on-search nothing e ih = h
-      on-search (pragma k j) e ih =
-          on-value k (value_start c j) (value_of (drop (value_start c j) c)) refl (value-begins c j (pragma-behind (length c) c i k j e)) ih
+      by_search nothing e ih = h
+      by_search (pragma k j) e ih =
+          by_value k (value_start c j) (value_of (drop (value_start c j) c)) refl (value_begins c j (pragma_behind (length c) c i k j e)) ih
 
-  pub comment-borne : (o : Options) → Borne text o → Borne text (with_comment text o s)
+  pub comment_borne : (o : Options) → Borne text o → Borne text (with_comment text o s)
   unfolding with_comment c
-  comment-borne o h = from-borne (length (part_of text s)) o 0 h
+  comment_borne o h = from_borne (length (part_of text s)) o 0 h
 
 -- ---- all comments
 
@@ -335,9 +335,9 @@ abbrev pub AllInOrder : List ℕ → List Span → Type 0
 AllInOrder text [] = Unit {0}
 AllInOrder text (s ∷ ss) = InOrder text s × AllInOrder text ss
 
-pub comments-borne : (text : List ℕ) → first_ill text ≡ found.Nothing → (o : Options) (ss : List Span) → AllInOrder text ss → Borne text o
+pub comments_borne : (text : List ℕ) → first_ill text ≡ found.Nothing → (o : Options) (ss : List Span) → AllInOrder text ss → Borne text o
     → Borne text (with_comments text o ss)
 unfolding with_comments
-comments-borne text good o [] a h = h
-comments-borne text good o (s ∷ ss) a h =
-    comments-borne text good (with_comment text o s) ss a.1 (comment-borne text good s a.0 o h)
+comments_borne text good o [] a h = h
+comments_borne text good o (s ∷ ss) a h =
+    comments_borne text good (with_comment text o s) ss a.1 (comment_borne text good s a.0 o h)

@@ -1,8 +1,8 @@
 -- Counting the elements of a list that pass a test, and tests joined by `&&` and `||`.
 --     never                      false is not true
---     both, either-false         what a conjunction's truth and a disjunction's falsehood say of the parts
---     count-nil, count-append    counts of a list's parts
---     count-le                   where one test implies another, no more pass it
+--     both, either_false         what a conjunction's truth and a disjunction's falsehood say of the parts
+--     count_nil, count_append    counts of a list's parts
+--     count_le                   where one test implies another, no more pass it
 -- Assumes nothing.
 use mathlib.Core.Path.{◌≡◌, refl, sym, ◌∙◌}
 use mathlib.Core.Bool.{Bool, true, false, cond, ◌&&◌, ◌||◌}
@@ -20,31 +20,31 @@ pub both : (a b : Bool) → (a && b) ≡ true → (a ≡ true) × (b ≡ true)
 both true b e = (refl, e)
 both false b e = never e
 
-pub either-false : (a b : Bool) → (a || b) ≡ false → (a ≡ false) × (b ≡ false)
-either-false true b e = never (sym e)
-either-false false b e = (refl, e)
+pub either_false : (a b : Bool) → (a || b) ≡ false → (a ≡ false) × (b ≡ false)
+either_false true b e = never (sym e)
+either_false false b e = (refl, e)
 
 -- ---- counts
 
 module _ {A : Type 0} where
-  pub count-nil : (p : A → Bool) → count p [] ≡ 0
+  pub count_nil : (p : A → Bool) → count p [] ≡ 0
   unfolding count
-  count-nil p = refl
+  count_nil p = refl
 
-  pub count-append : (p : A → Bool) (xs ys : List A) → count p (xs ++ ys) ≡ count p xs + count p ys
+  pub count_append : (p : A → Bool) (xs ys : List A) → count p (xs ++ ys) ≡ count p xs + count p ys
   unfolding count
-  count-append p [] ys = omega arith
-  count-append p (x ∷ xs) ys = go (p x) (count-append p xs ys)
+  count_append p [] ys = omega arith
+  count_append p (x ∷ xs) ys = go (p x) (count_append p xs ys)
     where
       go : (b : Bool) → count p (xs ++ ys) ≡ count p xs + count p ys
           → cond b (suc (count p (xs ++ ys))) (count p (xs ++ ys)) ≡ cond b (suc (count p xs)) (count p xs) + count p ys
       go true h = omega arith
       go false h = h
 
-  pub count-le : (p q : A → Bool) → ((x : A) → p x ≡ true → q x ≡ true) → (xs : List A) → count p xs ≤ count q xs
+  pub count_le : (p q : A → Bool) → ((x : A) → p x ≡ true → q x ≡ true) → (xs : List A) → count p xs ≤ count q xs
   unfolding count
-  count-le p q h [] = omega arith
-  count-le p q h (x ∷ xs) = go (p x) refl (q x) refl (count-le p q h xs)
+  count_le p q h [] = omega arith
+  count_le p q h (x ∷ xs) = go (p x) refl (q x) refl (count_le p q h xs)
     where
       go : (a : Bool) → p x ≡ a → (b : Bool) → q x ≡ b → count p xs ≤ count q xs
           → cond a (suc (count p xs)) (count p xs) ≤ cond b (suc (count q xs)) (count q xs)

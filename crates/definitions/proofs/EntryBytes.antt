@@ -1,10 +1,10 @@
 -- The record tape is the bytes of the records that are read off it: its reader reaches the end.
---     tape-bytes     for any records
+--     tape_bytes     for any records
 -- Assumes nothing.
 use mathlib.Core.Path.{◌≡◌, refl, sym, ap, ◌∙◌}
 use mathlib.Core.Bool.{Bool, true, false, cond, ◌||◌}
 use mathlib.Core.List.{List, [], ◌∷◌, ◌++◌, append_assoc}
-use Prim.Native.Nat.{ℕ, suc, ◌+◌, ◌≤◌}
+use Prim.Native.Nat.{ℕ, suc, ◌≤◌}
 use native.Mathlib.Omega.{arith}
 use lib.Dec.{eqb}
 use borrow.Author.Tests.{eq-eqb, eqb-true}
@@ -13,11 +13,11 @@ use Rattle.definitions.specs.declared.records.Import.{Import}
 use Rattle.definitions.specs.declared.records.Import.TheVariants.{Named, Default, FileName}
 use Rattle.definitions.specs.declared.records.Record.{Record}
 use Rattle.definitions.specs.Records.{without, is_among, with_group, grouped_by, groups_from, entry_in, entries_in, group_tape, place_in, file_name_entry}
-use Rattle.definitions.specs.Records.{file_name_tape, record_tape, Entry, named, required, file, read_records, Group, outside, within, group_head}
+use Rattle.definitions.specs.Records.{file_name_tape, record_tape, Entry, named, required, read_records, Group, outside, within, group_head}
 use Rattle.definitions.specs.Records.{entry_bytes}
 use Rattle.definitions.specs.Claim.{count}
 use Rattle.definitions.proofs.Counting.{never}
-use Rattle.definitions.proofs.TapeEntries.{in_group, all_in_group, group_entries, file_entry, file_entries, tape-read, Distinct, distinct-groups}
+use Rattle.definitions.proofs.TapeEntries.{in_group, all_in_group, group_entries, file_entry, file_entries, tape_read, Distinct, distinct_groups}
 
 -- ---- within a group
 
@@ -25,19 +25,19 @@ same_head : (s : ℕ) (l : List ℕ) → group_head (within s) s ++ l ≡ l
 unfolding group_head
 same_head s l = rw (eq-eqb s s refl)
 
-in-group : (s : ℕ) (i : Import) (b : ℕ) (l : List Entry) → entry_bytes (within s) (in_group s i b ++ l) ≡ entry_in s i b ++ entry_bytes (within s) l
+in_group_bytes : (s : ℕ) (i : Import) (b : ℕ) (l : List Entry) → entry_bytes (within s) (in_group s i b ++ l) ≡ entry_in s i b ++ entry_bytes (within s) l
 unfolding in_group entry_in entry_bytes
-in-group s (Named t n) b l = go (eqb s t)
+in_group_bytes s (Named t n) b l = go (eqb s t)
   where
     go : (q : Bool) → entry_bytes (within s) (cond q (named s n b ∷ []) [] ++ l) ≡ cond q (0xb1 ∷ n ∷ b ∷ []) [] ++ entry_bytes (within s) l
     go true = same_head s _
     go false = refl
-in-group s (Default t) b l = go (eqb s t)
+in_group_bytes s (Default t) b l = go (eqb s t)
   where
     go : (q : Bool) → entry_bytes (within s) (cond q (required s b ∷ []) [] ++ l) ≡ cond q (0xb2 ∷ b ∷ []) [] ++ entry_bytes (within s) l
     go true = same_head s _
     go false = refl
-in-group s FileName b l = refl
+in_group_bytes s FileName b l = refl
 
 -- records of the group that stands open
 more_bytes : (s : ℕ) (rs : List Record) (es : List Entry) → entry_bytes (within s) (all_in_group s rs ++ es) ≡ entries_in s rs ++ entry_bytes (within s) es
@@ -45,7 +45,7 @@ unfolding all_in_group entries_in
 more_bytes s [] es = refl
 more_bytes s (r ∷ rs) es =
     rw (append_assoc (in_group s r.import r.binding) (all_in_group s rs) es, append_assoc (entry_in s r.import r.binding) (entries_in s rs) (entry_bytes (within s) es))
-    (in-group s r.import r.binding (all_in_group s rs ++ es) ∙ ap (λ (l : List ℕ). entry_in s r.import r.binding ++ l) (more_bytes s rs es))
+    (in_group_bytes s r.import r.binding (all_in_group s rs ++ es) ∙ ap (λ (l : List ℕ). entry_in s r.import r.binding ++ l) (more_bytes s rs es))
 
 -- ---- a group
 
@@ -60,13 +60,13 @@ some_in s [] = false
 some_in s (r ∷ rs) = is_in s r.import || some_in s rs
 
 -- the group of a source that does not stand open, with a record at the least
-group-bytes : (g : Group) (s : ℕ) (rs : List Record) (es : List Entry) → group_head g s ≡ 0xb0 ∷ s ∷ [] → some_in s rs ≡ true
+group_bytes : (g : Group) (s : ℕ) (rs : List Record) (es : List Entry) → group_head g s ≡ 0xb0 ∷ s ∷ [] → some_in s rs ≡ true
     → entry_bytes g (all_in_group s rs ++ es) ≡ 0xb0 ∷ s ∷ entries_in s rs ++ entry_bytes (within s) es
 unfolding some_in all_in_group entries_in is_in in_group entry_in entry_bytes
-group-bytes g s [] es h e = never e
-group-bytes g s (r ∷ rs) es h e =
+group_bytes g s [] es h e = never e
+group_bytes g s (r ∷ rs) es h e =
     rw (append_assoc (in_group s r.import r.binding) (all_in_group s rs) es, append_assoc (entry_in s r.import r.binding) (entries_in s rs) (entry_bytes (within s) es))
-    (first r.import e (group-bytes g s rs es h))
+    (first r.import e (group_bytes g s rs es h))
   where
     first : (i : Import) → (is_in s i || some_in s rs) ≡ true
         → (some_in s rs ≡ true → entry_bytes g (all_in_group s rs ++ es) ≡ 0xb0 ∷ s ∷ entries_in s rs ++ entry_bytes (within s) es)
@@ -94,19 +94,19 @@ abbrev Opened : List Record → Group → List ℕ → Type 0
 Opened rs g [] = Unit {0}
 Opened rs g (s ∷ ss) = (group_head g s ≡ 0xb0 ∷ s ∷ []) × ((some_in s rs ≡ true) × Opened rs (within s) ss)
 
-groups-bytes : (g : Group) (rs : List Record) (ss : List ℕ) (es : List Entry) (t : List ℕ) → Opened rs g ss → ((y : Group) → entry_bytes y es ≡ t)
+groups_bytes : (g : Group) (rs : List Record) (ss : List ℕ) (es : List Entry) (t : List ℕ) → Opened rs g ss → ((y : Group) → entry_bytes y es ≡ t)
     → entry_bytes g (group_entries rs ss ++ es) ≡ group_tape rs ss ++ t
 unfolding group_entries group_tape
-groups-bytes g rs [] es t o h = h g
-groups-bytes g rs (s ∷ ss) es t o h =
+groups_bytes g rs [] es t o h = h g
+groups_bytes g rs (s ∷ ss) es t o h =
     rw (append_assoc (all_in_group s rs) (group_entries rs ss) es, append_assoc (entries_in s rs) (group_tape rs ss) t)
-    (group-bytes g s rs (group_entries rs ss ++ es) o.0 o.1.0
-    ∙ ap (λ (l : List ℕ). 0xb0 ∷ s ∷ entries_in s rs ++ l) (groups-bytes (within s) rs ss es t o.1.1 h))
+    (group_bytes g s rs (group_entries rs ss ++ es) o.0 o.1.0
+    ∙ ap (λ (l : List ℕ). 0xb0 ∷ s ∷ entries_in s rs ++ l) (groups_bytes (within s) rs ss es t o.1.1 h))
 
-file-bytes : (place : ℕ) (rs : List Record) (y : Group) → entry_bytes y (file_entries place rs) ≡ file_name_tape place rs
+file_bytes : (place : ℕ) (rs : List Record) (y : Group) → entry_bytes y (file_entries place rs) ≡ file_name_tape place rs
 unfolding file_entries file_name_tape file_entry file_name_entry entry_bytes
-file-bytes place [] y = refl
-file-bytes place (r ∷ rs) y = go r.import (file-bytes place rs y)
+file_bytes place [] y = refl
+file_bytes place (r ∷ rs) y = go r.import (file_bytes place rs y)
   where
     go : (i : Import) → entry_bytes y (file_entries place rs) ≡ file_name_tape place rs
         → entry_bytes y (file_entry place i r.binding ++ file_entries place rs) ≡ file_name_entry place i r.binding ++ file_name_tape place rs
@@ -130,71 +130,71 @@ module _ (P : ℕ → Type 0) where
       go true ih = ih
       go false ih = (h.0, ih)
 
-  all-behind : (s : ℕ) (ss : List ℕ) → All P ss → P s → All P (ss ++ s ∷ [])
-  all-behind s [] h p = (p, tt)
-  all-behind s (t ∷ ss) h p = (h.0, all-behind s ss h.1 p)
+  all_behind : (s : ℕ) (ss : List ℕ) → All P ss → P s → All P (ss ++ s ∷ [])
+  all_behind s [] h p = (p, tt)
+  all_behind s (t ∷ ss) h p = (h.0, all_behind s ss h.1 p)
 
-  all-with : (f : Bool) (s : ℕ) (ss : List ℕ) → All P ss → P s → All P (with_group f s ss)
+  all_with : (f : Bool) (s : ℕ) (ss : List ℕ) → All P ss → P s → All P (with_group f s ss)
   unfolding with_group
-  all-with true s ss h p = (p, all_without s ss h)
-  all-with false s ss h p = go (is_among s ss)
+  all_with true s ss h p = (p, all_without s ss h)
+  all_with false s ss h p = go (is_among s ss)
     where
       go : (q : Bool) → All P (cond q ss (ss ++ s ∷ []))
       go true = h
-      go false = all-behind s ss h p
+      go false = all_behind s ss h p
 
 -- what stands in rs stands in all of them
 abbrev Among : List Record → List Record → Type 0
 Among rs all = (s : ℕ) → some_in s rs ≡ true → some_in s all ≡ true
 
-all-some : (all : List Record) (ss : List ℕ) (rs : List Record) → Among rs all → All (λ s. some_in s all ≡ true) ss
+all_some : (all : List Record) (ss : List ℕ) (rs : List Record) → Among rs all → All (λ s. some_in s all ≡ true) ss
     → All (λ s. some_in s all ≡ true) (groups_from ss rs)
 unfolding groups_from some_in grouped_by is_in
-all-some all ss [] a h = h
-all-some all ss (r ∷ rs) a h = all-some all (grouped_by ss r.import) rs (λ s e. a s (later (is_in s r.import) e)) (go r.import (λ s e. a s (rw e)))
+all_some all ss [] a h = h
+all_some all ss (r ∷ rs) a h = all_some all (grouped_by ss r.import) rs (λ s e. a s (later (is_in s r.import) e)) (go r.import (λ s e. a s (rw e)))
   where
     later : (q : Bool) {x : Bool} → x ≡ true → (q || x) ≡ true
     later true e = refl
     later false e = e
 
     go : (i : Import) → ((s : ℕ) → is_in s i ≡ true → some_in s all ≡ true) → All (λ s. some_in s all ≡ true) (grouped_by ss i)
-    go (Named t n) k = all-with (λ s. some_in s all ≡ true) false t ss h (k t (eq-eqb t t refl))
-    go (Default t) k = all-with (λ s. some_in s all ≡ true) (eqb t 0) t ss h (k t (eq-eqb t t refl))
+    go (Named t n) k = all_with (λ s. some_in s all ≡ true) false t ss h (k t (eq-eqb t t refl))
+    go (Default t) k = all_with (λ s. some_in s all ≡ true) (eqb t 0) t ss h (k t (eq-eqb t t refl))
     go FileName k = h
 
-counted-first : (s t : ℕ) (ss : List ℕ) → s ≡ t → count (eqb t) (s ∷ ss) ≡ suc (count (eqb t) ss)
+counted_first : (s t : ℕ) (ss : List ℕ) → s ≡ t → count (eqb t) (s ∷ ss) ≡ suc (count (eqb t) ss)
 unfolding count
-counted-first s t ss h = rw (eq-eqb t s (sym h))
+counted_first s t ss h = rw (eq-eqb t s (sym h))
 
-counted-later : (s t : ℕ) (ss : List ℕ) → count (eqb t) (s ∷ ss) ≤ 1 → count (eqb t) ss ≤ 1
+counted_later : (s t : ℕ) (ss : List ℕ) → count (eqb t) (s ∷ ss) ≤ 1 → count (eqb t) ss ≤ 1
 unfolding count
-counted-later s t ss h = go (eqb t s) h
+counted_later s t ss h = go (eqb t s) h
   where
     go : (q : Bool) → cond q (suc (count (eqb t) ss)) (count (eqb t) ss) ≤ 1 → count (eqb t) ss ≤ 1
     go true h = omega arith
     go false h = h
 
 -- behind the group of s that of another source opens
-other-head : (s t : ℕ) (ss : List ℕ) → count (eqb t) (s ∷ ss) ≤ 1 → count (eqb t) ss ≡ 1 → group_head (within s) t ≡ 0xb0 ∷ t ∷ []
+other_head : (s t : ℕ) (ss : List ℕ) → count (eqb t) (s ∷ ss) ≤ 1 → count (eqb t) ss ≡ 1 → group_head (within s) t ≡ 0xb0 ∷ t ∷ []
 unfolding group_head
-other-head s t ss d e = go (eqb s t) refl
+other_head s t ss d e = go (eqb s t) refl
   where
     go : (q : Bool) → eqb s t ≡ q → cond q [] (0xb0 ∷ t ∷ []) ≡ 0xb0 ∷ t ∷ []
-    go true q = absurd (omega (arith, counted-first s t ss (eqb-true s t q)))
+    go true q = absurd (omega (arith, counted_first s t ss (eqb-true s t q)))
     go false q = refl
 
-opened-from : (rs : List Record) (g : Group) (ss : List ℕ) → Distinct ss → ((s : ℕ) → count (eqb s) ss ≡ 1 → group_head g s ≡ 0xb0 ∷ s ∷ [])
+opened_from : (rs : List Record) (g : Group) (ss : List ℕ) → Distinct ss → ((s : ℕ) → count (eqb s) ss ≡ 1 → group_head g s ≡ 0xb0 ∷ s ∷ [])
     → All (λ s. some_in s rs ≡ true) ss → Opened rs g ss
-opened-from rs g [] d f h = tt
-opened-from rs g (s ∷ ss) d f h = (
-  f s (omega (arith, counted-first s s ss refl, d s)),
-  (h.0, opened-from rs (within s) ss (λ t. counted-later s t ss (d t)) (λ t e. other-head s t ss (d t) e) h.1),
+opened_from rs g [] d f h = tt
+opened_from rs g (s ∷ ss) d f h = (
+  f s (omega (arith, counted_first s s ss refl, d s)),
+  (h.0, opened_from rs (within s) ss (λ t. counted_later s t ss (d t)) (λ t e. other_head s t ss (d t) e) h.1),
 )
 
-pub tape-bytes : (m : Mode) (rs : List Record) → entry_bytes outside (read_records (record_tape m rs)) ≡ record_tape m rs
+pub tape_bytes : (m : Mode) (rs : List Record) → entry_bytes outside (read_records (record_tape m rs)) ≡ record_tape m rs
 unfolding record_tape group_head
-tape-bytes m rs =
-    ap (entry_bytes outside) (tape-read m rs)
-    ∙ groups-bytes outside rs (groups_from [] rs) (file_entries (place_in m) rs) (file_name_tape (place_in m) rs)
-    (opened-from rs outside (groups_from [] rs) (distinct-groups rs) (λ s e. refl) (all-some rs [] rs (λ s e. e) tt))
-    (λ y. file-bytes (place_in m) rs y)
+tape_bytes m rs =
+    ap (entry_bytes outside) (tape_read m rs)
+    ∙ groups_bytes outside rs (groups_from [] rs) (file_entries (place_in m) rs) (file_name_tape (place_in m) rs)
+    (opened_from rs outside (groups_from [] rs) (distinct_groups rs) (λ s e. refl) (all_some rs [] rs (λ s e. e) tt))
+    (λ y. file_bytes (place_in m) rs y)

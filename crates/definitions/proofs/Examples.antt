@@ -1,6 +1,6 @@
 -- The two tables of examples (specs/Examples), computed from the definitions: each row is answered as it says.
---     proved-set       the specification's "Sheets to try"
---     readings-set     how open places were read
+--     proved_set       the specification's "Sheets to try"
+--     readings_set     how open places were read
 -- Assumes nothing.
 use Rattle.std.specs.Prelude.{refl}
 use Rattle.text.specs.Bytes.{same, find_from}
@@ -49,8 +49,8 @@ unfolding reply_to pairs_of opening_reply meaning_of meaning digit hex_of
     print_records print_root print_opening jsxtape
 computed = (refl, refl)
 
-pub proved-set : Answered table
-proved-set = computed.0
+pub proved_set : Answered table
+proved_set = computed.0
 
-pub readings-set : Answered readings
-readings-set = computed.1
+pub readings_set : Answered readings
+readings_set = computed.1

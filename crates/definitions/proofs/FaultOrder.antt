@@ -1,13 +1,13 @@
 -- Of all that is wrong with one command the first in the order is told (specs/Faults): for each of the ways in which a command's operands are judged.
---     span-told, name-told, names-told     spanned, named, and named of the worse of two bounds
---     text-told, node-told                 lettered, opened
+--     span_told, name_told, names_told     spanned, named, and named of the worse of two bounds
+--     text_told, node_told                 lettered, opened
 -- Assumes nothing.
 use Prim.Native.Nat.{ℕ, ◌+◌}
 use mathlib.Core.Path.{◌≡◌, refl}
 use mathlib.Core.Bool.{Bool, true, false, cond, ◌||◌}
 use mathlib.Core.List.{List}
 use lib.ListN.{length}
-use lib.Dec.{eqb, leb, ltb}
+use lib.Dec.{eqb, ltb}
 use Rattle.text.specs.declared.spans.Span.{Span}
 use Rattle.text.specs.declared.spans.Bounds.{Bounds}
 use Rattle.text.specs.declared.spans.Bounds.TheVariants.{Outside, Cuts, Empty, Good}
@@ -32,9 +32,9 @@ abbrev bounds_by : Bool → Bool → Bool → Bounds
 bounds_by o c e = cond o Outside (cond c Cuts (cond e Empty Good))
 
 module _ {A : Type 0} (text : List ℕ) where
-  pub span-told : (s : Span) (p : Parsed A) → spanned (bounds_of text s) p ≡ told (span_has text s) p
+  pub span_told : (s : Span) (p : Parsed A) → spanned (bounds_of text s) p ≡ told (span_has text s) p
   unfolding bounds_of spanned told_in span_has fault_number
-  span-told s p = go (beyond text s) (cutting text s) (eqb s.len 0)
+  span_told s p = go (beyond text s) (cutting text s) (eqb s.len 0)
     where
       go : (o c e : Bool) → spanned (bounds_by o c e) p ≡ cond o (stop fault.Outside 0) (cond c (stop fault.Cuts 0) p)
       go true c e = refl
@@ -42,9 +42,9 @@ module _ {A : Type 0} (text : List ℕ) where
       go false false true = refl
       go false false false = refl
 
-  pub name-told : (s : Span) (p : Parsed A) → named (bounds_of text s) p ≡ told (name_has text s) p
+  pub name_told : (s : Span) (p : Parsed A) → named (bounds_of text s) p ≡ told (name_has text s) p
   unfolding bounds_of named told_in span_has name_has fault_number
-  name-told s p = go (beyond text s) (cutting text s) (eqb s.len 0)
+  name_told s p = go (beyond text s) (cutting text s) (eqb s.len 0)
     where
       go :
           (o c e : Bool)
@@ -56,9 +56,9 @@ module _ {A : Type 0} (text : List ℕ) where
       go false false false = refl
 
   -- the worse of two bounds is the one whose number comes first
-  pub names-told : (s r : Span) (p : Parsed A) → named (worse (bounds_of text s) (bounds_of text r)) p ≡ told (names_have text s r) p
+  pub names_told : (s r : Span) (p : Parsed A) → named (worse (bounds_of text s) (bounds_of text r)) p ≡ told (names_have text s r) p
   unfolding bounds_of named worse told_in span_has name_has names_have fault_number
-  names-told s r p = go (beyond text s) (cutting text s) (eqb s.len 0) (beyond text r) (cutting text r) (eqb r.len 0)
+  names_told s r p = go (beyond text s) (cutting text s) (eqb s.len 0) (beyond text r) (cutting text r) (eqb r.len 0)
     where
       go :
           (o c e o' c' e' : Bool)
@@ -78,9 +78,9 @@ module _ {A : Type 0} (text : List ℕ) where
       go false false false false false true = refl
       go false false false false false false = refl
 
-  pub text-told : (s : Span) (p : Parsed A) → lettered text s p ≡ told (text_has text s) p
+  pub text_told : (s : Span) (p : Parsed A) → lettered text s p ≡ told (text_has text s) p
   unfolding bounds_of spanned lettered told_in span_has text_has fault_number
-  text-told s p = go (beyond text s) (cutting text s) (eqb s.len 0) (has_reference (part_of text s))
+  text_told s p = go (beyond text s) (cutting text s) (eqb s.len 0) (has_reference (part_of text s))
     where
       go :
           (o c e a : Bool)
@@ -91,6 +91,6 @@ module _ {A : Type 0} (text : List ℕ) where
       go false false true a = refl
       go false false false a = refl
 
-pub node-told : {A : Type 0} (d : ℕ) (p : Place) (body : Parsed A) → opened d p body ≡ told (node_has d p) (from 9 body)
+pub node_told : {A : Type 0} (d : ℕ) (p : Place) (body : Parsed A) → opened d p body ≡ told (node_has d p) (from 9 body)
 unfolding opened told_in node_has fault_number
-node-told d p body = refl
+node_told d p body = refl

@@ -1,8 +1,8 @@
 -- The notices of a root have no more bytes than its tape.
 --     noted             the bytes of an output's notices
 --     notes             they are those of the notice tape
---     node-notes        a tree's notices have no more bytes than the tree has on its tape
---     root-notes        so a root's have no more than its tape
+--     node_notes        a tree's notices have no more bytes than the tree has on its tape
+--     root_notes        so a root's have no more than its tape
 -- Assumes nothing.
 use mathlib.Core.Path.{◌≡◌, refl}
 use mathlib.Core.Bool.{Bool, true, false, cond, not, ◌&&◌}
@@ -35,8 +35,8 @@ use Rattle.definitions.specs.Lowering.{self_output, static_children, no_key, is_
 use Rattle.definitions.specs.Lowering.{classic_call, plugins_off, is_last, lone_spread_or, classic_element, lower_node, lower_attributes, lower_key}
 use Rattle.definitions.specs.Lowering.{lower_value, lower_children, can_add_self, lower_root}
 use Rattle.definitions.specs.Entries.{lowered_after}
-use Rattle.definitions.proofs.TreeSizes.{root-size}
-use Rattle.definitions.proofs.Weights.{size_name, size_properties, size_node, size_attributes, size_value, size_children}
+use Rattle.definitions.proofs.TreeSizes.{root_size}
+use Rattle.definitions.proofs.Weights.{size_name, size_node, size_attributes, size_value, size_children}
 
 unfoldable pub noted : List Output → ℕ
 noted [] = 0
@@ -53,135 +53,135 @@ notes (notify (valueless_key s) ∷ os) = omega (arith, notes os)
 notes (notify (namespaced_tag s r) ∷ os) = omega (arith, notes os)
 notes (notify (invalid_pragma s) ∷ os) = omega (arith, notes os)
 
-noted-append : (xs ys : List Output) → noted (xs ++ ys) ≡ noted xs + noted ys
+noted_append : (xs ys : List Output) → noted (xs ++ ys) ≡ noted xs + noted ys
 unfolding noted
-noted-append [] ys = omega arith
-noted-append (emit c ∷ xs) ys = noted-append xs ys
-noted-append (notify (valueless_key s) ∷ xs) ys = omega (arith, noted-append xs ys)
-noted-append (notify (namespaced_tag s r) ∷ xs) ys = omega (arith, noted-append xs ys)
-noted-append (notify (invalid_pragma s) ∷ xs) ys = omega (arith, noted-append xs ys)
+noted_append [] ys = omega arith
+noted_append (emit c ∷ xs) ys = noted_append xs ys
+noted_append (notify (valueless_key s) ∷ xs) ys = omega (arith, noted_append xs ys)
+noted_append (notify (namespaced_tag s r) ∷ xs) ys = omega (arith, noted_append xs ys)
+noted_append (notify (invalid_pragma s) ∷ xs) ys = omega (arith, noted_append xs ys)
 
 -- ---- parts that notify nobody
 
 -- at most n, whichever way a test goes
-either-noted : (b : Bool) (xs ys : List Output) (n : ℕ) → noted xs ≤ n → noted ys ≤ n → noted (cond b xs ys) ≤ n
-either-noted true xs ys n h k = h
-either-noted false xs ys n h k = k
+either_noted : (b : Bool) (xs ys : List Output) (n : ℕ) → noted xs ≤ n → noted ys ≤ n → noted (cond b xs ys) ≤ n
+either_noted true xs ys n h k = h
+either_noted false xs ys n h k = k
 
-piece-noted : (s : Span) → noted (piece s) ≤ 0
+piece_noted : (s : Span) → noted (piece s) ≤ 0
 unfolding noted
-piece-noted s = either-noted (eqb s.len 0) [] (put_span call.piece s) 0 (omega arith) (omega arith)
+piece_noted s = either_noted (eqb s.len 0) [] (put_span call.piece s) 0 (omega arith) (omega arith)
 
-joined-noted : (ss : List Span) → noted (joined ss) ≤ 0
+joined_noted : (ss : List Span) → noted (joined ss) ≤ 0
 unfolding joined noted
-joined-noted [] = omega arith
-joined-noted (s ∷ []) = piece-noted s
-joined-noted (s ∷ r ∷ rs) = simp noted-append (omega (arith, piece-noted s, joined-noted (r ∷ rs)))
+joined_noted [] = omega arith
+joined_noted (s ∷ []) = piece_noted s
+joined_noted (s ∷ r ∷ rs) = simp noted_append (omega (arith, piece_noted s, joined_noted (r ∷ rs)))
 
-text-noted : (ss : List Span) → noted (lower_text ss) ≤ 0
+text_noted : (ss : List Span) → noted (lower_text ss) ≤ 0
 unfolding lower_text noted
-text-noted [] = omega arith
-text-noted (s ∷ ss) = simp noted-append (omega (arith, joined-noted (s ∷ ss)))
+text_noted [] = omega arith
+text_noted (s ∷ ss) = simp noted_append (omega (arith, joined_noted (s ∷ ss)))
 
-members-noted : (ss : List Span) → noted (members ss) ≤ 0
+members_noted : (ss : List Span) → noted (members ss) ≤ 0
 unfolding members noted
-members-noted [] = omega arith
-members-noted (s ∷ ss) = members-noted ss
+members_noted [] = omega arith
+members_noted (s ∷ ss) = members_noted ss
 
-colonized-noted : (s r : Span) → noted (colonized s r) ≤ 0
+colonized_noted : (s r : Span) → noted (colonized s r) ≤ 0
 unfolding noted
-colonized-noted s r = simp noted-append (omega (arith, piece-noted s, piece-noted r))
+colonized_noted s r = simp noted_append (omega (arith, piece_noted s, piece_noted r))
 
-imported-noted : (m : Mode) (n k : ℕ) → noted (imported m n k) ≤ 0
+imported_noted : (m : Mode) (n k : ℕ) → noted (imported m n k) ≤ 0
 unfolding imported noted
-imported-noted Module n k = omega arith
-imported-noted Script n k = omega arith
-imported-noted Classic n k = omega arith
+imported_noted Module n k = omega arith
+imported_noted Script n k = omega arith
+imported_noted Classic n k = omega arith
 
-closing-noted : (c : Context) (tag : List Output) (n : ℕ) → noted (closing c tag n) ≤ noted tag
+closing_noted : (c : Context) (tag : List Output) (n : ℕ) → noted (closing c tag n) ≤ noted tag
 unfolding noted
-closing-noted c tag n = simp noted-append (omega (arith, imported-noted c.settings.mode n 0))
+closing_noted c tag n = simp noted_append (omega (arith, imported_noted c.settings.mode n 0))
 
-source-noted : (c : Context) (p : Place) → noted (source_output c p) ≤ 0
+source_noted : (c : Context) (p : Place) → noted (source_output c p) ≤ 0
 unfolding source_output noted
-source-noted c p = either-noted c.settings.options.flags.source_plugin _ [] 0 (omega arith) (omega arith)
+source_noted c p = either_noted c.settings.options.flags.source_plugin _ [] 0 (omega arith) (omega arith)
 
-self-noted : (c : Context) → noted (self_output c) ≤ 0
+self_noted : (c : Context) → noted (self_output c) ≤ 0
 unfolding self_output noted
-self-noted c = either-noted (c.settings.options.flags.self_plugin && c.self_allowed) (put call.self) [] 0 (omega arith) (omega arith)
+self_noted c = either_noted (c.settings.options.flags.self_plugin && c.self_allowed) (put call.self) [] 0 (omega arith) (omega arith)
 
-static-noted : (c : Context) (n : ℕ) → noted (static_children c n) ≤ 0
+static_noted : (c : Context) (n : ℕ) → noted (static_children c n) ≤ 0
 unfolding static_children noted
-static-noted c n =
-    either-noted c.settings.options.flags.development _ [] 0
-    (either-noted (leb 2 n) (put call.literal_true) (put call.literal_false) 0 (omega arith) (omega arith))
+static_noted c n =
+    either_noted c.settings.options.flags.development _ [] 0
+    (either_noted (leb 2 n) (put call.literal_true) (put call.literal_false) 0 (omega arith) (omega arith))
     (omega arith)
 
-no-key-noted : (c : Context) → noted (no_key c) ≤ 0
+no_key_noted : (c : Context) → noted (no_key c) ≤ 0
 unfolding no_key noted
-no-key-noted c = either-noted c.settings.options.flags.development (put call.void_zero) [] 0 (omega arith) (omega arith)
+no_key_noted c = either_noted c.settings.options.flags.development (put call.void_zero) [] 0 (omega arith) (omega arith)
 
-attribute-name-noted : (c : Context) (s : Span) → noted (attribute_name c s) ≤ 0
+attribute_name_noted : (c : Context) (s : Span) → noted (attribute_name c s) ≤ 0
 unfolding attribute_name noted
-attribute-name-noted c s =
-    either-noted (is_found (find (eqb 0x2d) (part_of c.text s))) _ (put_span call.name s) 0 (simp noted-append (omega (arith, piece-noted s))) (omega arith)
+attribute_name_noted c s =
+    either_noted (is_found (find (eqb 0x2d) (part_of c.text s))) _ (put_span call.name s) 0 (simp noted_append (omega (arith, piece_noted s))) (omega arith)
 
-carried-noted : (ps : List Property) → noted (carried ps) ≤ 0
+carried_noted : (ps : List Property) → noted (carried ps) ≤ 0
 unfolding carried noted
-carried-noted [] = omega arith
-carried-noted (unnamed e ∷ ps) = carried-noted ps
-carried-noted (prop_name e s ∷ ps) = carried-noted ps
+carried_noted [] = omega arith
+carried_noted (unnamed e ∷ ps) = carried_noted ps
+carried_noted (prop_name e s ∷ ps) = carried_noted ps
 
-literal-noted : (c : Context) (e : ℕ) (ps : List Property) → noted (lower_literal c e ps) ≤ 0
+literal_noted : (c : Context) (e : ℕ) (ps : List Property) → noted (lower_literal c e ps) ≤ 0
 unfolding noted
-literal-noted c e ps = either-noted (has_proto c ps) (put_over call.spread_property e) (carried ps) 0 (omega arith) (carried-noted ps)
+literal_noted c e ps = either_noted (has_proto c ps) (put_over call.spread_property e) (carried ps) 0 (omega arith) (carried_noted ps)
 
 -- ---- names, keys and calls
 
-name-noted : (c : Context) (n : Name) → noted (lower_name c n) ≤ size_name n
+name_noted : (c : Context) (n : Name) → noted (lower_name c n) ≤ size_name n
 unfolding lower_name noted size_name
-name-noted c (tree.plain s) = simp noted-append (omega (arith, piece-noted s))
-name-noted c (tree.identifier s ms) = omega (arith, members-noted ms)
-name-noted c (tree.this ms) = omega (arith, members-noted ms)
-name-noted c (tree.namespaced s r) = go c.settings.options.flags.throw_if_namespace
+name_noted c (tree.plain s) = simp noted_append (omega (arith, piece_noted s))
+name_noted c (tree.identifier s ms) = omega (arith, members_noted ms)
+name_noted c (tree.this ms) = omega (arith, members_noted ms)
+name_noted c (tree.namespaced s r) = go c.settings.options.flags.throw_if_namespace
   where
     go : (b : Bool) → noted (cond b (notify (namespaced_tag s r) ∷ []) [] ++ colonized s r) ≤ 9
-    go true = omega (arith, colonized-noted s r)
-    go false = omega (arith, colonized-noted s r)
+    go true = omega (arith, colonized_noted s r)
+    go false = omega (arith, colonized_noted s r)
 
-key-noted : (c : Context) (s : Span) (v : Value) → noted (key_notice c s v) ≤ 5
+key_noted : (c : Context) (s : Span) (v : Value) → noted (key_notice c s v) ≤ 5
 unfolding key_notice noted
-key-noted c s v = either-noted (is_key c s && not (has_value v)) (notify (valueless_key s) ∷ []) [] 5 (omega arith) (omega arith)
+key_noted c s v = either_noted (is_key c s && not (has_value v)) (notify (valueless_key s) ∷ []) [] 5 (omega arith) (omega arith)
 
-children-noted : (n form : ℕ) (items : List Output) → noted (children_property n form items) ≤ noted items
+children_noted : (n form : ℕ) (items : List Output) → noted (children_property n form items) ≤ noted items
 unfolding children_property noted
-children-noted n form items = either-noted (eqb n 0) [] _ (noted items) (omega arith) (simp noted-append (omega arith))
+children_noted n form items = either_noted (eqb n 0) [] _ (noted items) (omega arith) (simp noted_append (omega arith))
 
-object-noted : (os : List Output) → noted (object_of os) ≤ noted os
+object_noted : (os : List Output) → noted (object_of os) ≤ noted os
 unfolding object_of noted
-object-noted [] = omega arith
-object-noted (o ∷ os) = simp noted-append (omega arith)
+object_noted [] = omega arith
+object_noted (o ∷ os) = simp noted_append (omega arith)
 
-lone-noted : (c : Context) (a : Attributes) (os : List Output) → noted (lone_spread_or c a os) ≤ noted os
+lone_noted : (c : Context) (a : Attributes) (os : List Output) → noted (lone_spread_or c a os) ≤ noted os
 unfolding lone_spread_or noted
-lone-noted c no_attributes os = omega arith
-lone-noted c (attribute s v a) os = omega arith
-lone-noted c (namespaced_attribute s r v a) os = omega arith
-lone-noted c (spread e a) os = either-noted (is_last a && plugins_off c) (put_over call.sole_spread e) os (noted os) (omega arith) (omega arith)
-lone-noted c (literal e ps a) os =
-    either-noted (is_last a && plugins_off c && not (has_proto c ps)) (put_over call.sole_spread e) os (noted os) (omega arith) (omega arith)
+lone_noted c no_attributes os = omega arith
+lone_noted c (attribute s v a) os = omega arith
+lone_noted c (namespaced_attribute s r v a) os = omega arith
+lone_noted c (spread e a) os = either_noted (is_last a && plugins_off c) (put_over call.sole_spread e) os (noted os) (omega arith) (omega arith)
+lone_noted c (literal e ps a) os =
+    either_noted (is_last a && plugins_off c && not (has_proto c ps)) (put_over call.sole_spread e) os (noted os) (omega arith) (omega arith)
 
-automatic-noted : (c : Context) (ps : List Output) (k : Children) (items key added tag : List Output)
+automatic_noted : (c : Context) (ps : List Output) (k : Children) (items key added tag : List Output)
     → noted (automatic_call c ps k items key added tag) ≤ noted ps + noted items + noted key + noted added + noted tag
 unfolding automatic_call noted
-automatic-noted c ps k items key added tag =
+automatic_noted c ps k items key added tag =
     let n = survivors c k in
-    simp noted-append
-    (omega (arith, children-noted n (form_of n (has_spread k)) items, static-noted c n, simp noted-append at (closing-noted c tag (automatic_name c n))))
+    simp noted_append
+    (omega (arith, children_noted n (form_of n (has_spread k)) items, static_noted c n, simp noted_append at (closing_noted c tag (automatic_name c n))))
 
-classic-noted : (c : Context) (argument items tag : List Output) → noted (classic_call c argument items tag) ≤ noted argument + noted items + noted tag
+classic_noted : (c : Context) (argument items tag : List Output) → noted (classic_call c argument items tag) ≤ noted argument + noted items + noted tag
 unfolding classic_call noted
-classic-noted c argument items tag = simp noted-append (omega (arith, simp noted-append at (closing-noted c tag 1)))
+classic_noted c argument items tag = simp noted_append (omega (arith, simp noted_append at (closing_noted c tag 1)))
 
 -- ---- trees
 
@@ -189,98 +189,98 @@ module _ (c : Context) where
   mutual
     unfolding lower_node lower_attributes lower_key lower_value lower_children noted size_node size_attributes size_value size_children
 
-    pub node-notes : (n : Node) → noted (lower_node c n) ≤ size_node n
-    node-notes (element p n a k) =
-        either-noted (classic_element c a) _ _ (size_node (element p n a k))
+    pub node_notes : (n : Node) → noted (lower_node c n) ≤ size_node n
+    node_notes (element p n a k) =
+        either_noted (classic_element c a) _ _ (size_node (element p n a k))
         (omega (
           arith,
-          classic-noted c (lone_spread_or c a (object_of (lower_attributes c true a ++ self_output c ++ source_output c p))) (lower_children c k) (lower_name c n),
-          lone-noted c a (object_of (lower_attributes c true a ++ self_output c ++ source_output c p)),
-          object-noted (lower_attributes c true a ++ self_output c ++ source_output c p),
-          noted-append (lower_attributes c true a ++ self_output c) (source_output c p),
-          noted-append (lower_attributes c true a) (self_output c),
-          self-noted c,
-          source-noted c p,
-          name-noted c n,
-          attributes-note a,
-          children-note k,
+          classic_noted c (lone_spread_or c a (object_of (lower_attributes c true a ++ self_output c ++ source_output c p))) (lower_children c k) (lower_name c n),
+          lone_noted c a (object_of (lower_attributes c true a ++ self_output c ++ source_output c p)),
+          object_noted (lower_attributes c true a ++ self_output c ++ source_output c p),
+          noted_append (lower_attributes c true a ++ self_output c) (source_output c p),
+          noted_append (lower_attributes c true a) (self_output c),
+          self_noted c,
+          source_noted c p,
+          name_noted c n,
+          attributes_note a,
+          children_note k,
         ))
         (omega (
           arith,
-          automatic-noted c (lower_attributes c false a) k (lower_children c k) (lower_key c a (no_key c)) (source_output c p ++ self_output c) (lower_name c n),
-          noted-append (source_output c p) (self_output c),
-          self-noted c,
-          source-noted c p,
-          name-noted c n,
-          keyed-note a (no_key c),
-          no-key-noted c,
-          children-note k,
+          automatic_noted c (lower_attributes c false a) k (lower_children c k) (lower_key c a (no_key c)) (source_output c p ++ self_output c) (lower_name c n),
+          noted_append (source_output c p) (self_output c),
+          self_noted c,
+          source_noted c p,
+          name_noted c n,
+          keyed_note a (no_key c),
+          no_key_noted c,
+          children_note k,
         ))
-    node-notes (fragment p k) =
-        either-noted (is_classic c.settings.mode) _ _ (size_node (fragment p k))
+    node_notes (fragment p k) =
+        either_noted (is_classic c.settings.mode) _ _ (size_node (fragment p k))
         (omega (
           arith,
-          classic-noted c (object_of []) (lower_children c k) (fragment_tag c.settings.mode),
-          object-noted [],
-          imported-noted c.settings.mode 0 1,
-          children-note k,
+          classic_noted c (object_of []) (lower_children c k) (fragment_tag c.settings.mode),
+          object_noted [],
+          imported_noted c.settings.mode 0 1,
+          children_note k,
         ))
         (omega (
           arith,
-          automatic-noted c [] k (lower_children c k) (no_key c) [] (fragment_tag c.settings.mode),
-          imported-noted c.settings.mode 0 1,
-          no-key-noted c,
-          children-note k,
+          automatic_noted c [] k (lower_children c k) (no_key c) [] (fragment_tag c.settings.mode),
+          imported_noted c.settings.mode 0 1,
+          no_key_noted c,
+          children_note k,
         ))
 
-    attributes-note : (a : Attributes) → noted (lower_attributes c true a) ≤ size_attributes a
-    attributes-note no_attributes = omega arith
-    attributes-note (attribute s v a) =
-        either-noted (is_key c s && has_value v && not true) (lower_attributes c true a) _ (size_attributes (attribute s v a))
-        (omega (arith, attributes-note a))
-        (simp noted-append (omega (arith, key-noted c s v, attribute-name-noted c s, value-notes v, attributes-note a)))
-    attributes-note (namespaced_attribute s r v a) =
-        simp noted-append (omega (arith, simp noted-append at (colonized-noted s r), value-notes v, attributes-note a))
-    attributes-note (spread e a) = omega (arith, attributes-note a)
-    attributes-note (literal e ps a) = simp noted-append (omega (arith, literal-noted c e ps, attributes-note a))
+    attributes_note : (a : Attributes) → noted (lower_attributes c true a) ≤ size_attributes a
+    attributes_note no_attributes = omega arith
+    attributes_note (attribute s v a) =
+        either_noted (is_key c s && has_value v && not true) (lower_attributes c true a) _ (size_attributes (attribute s v a))
+        (omega (arith, attributes_note a))
+        (simp noted_append (omega (arith, key_noted c s v, attribute_name_noted c s, value_notes v, attributes_note a)))
+    attributes_note (namespaced_attribute s r v a) =
+        simp noted_append (omega (arith, simp noted_append at (colonized_noted s r), value_notes v, attributes_note a))
+    attributes_note (spread e a) = omega (arith, attributes_note a)
+    attributes_note (literal e ps a) = simp noted_append (omega (arith, literal_noted c e ps, attributes_note a))
 
     -- the value of a key is written once, among the attributes or behind the children
-    keyed-note : (a : Attributes) (other : List Output) → noted (lower_attributes c false a) + noted (lower_key c a other) ≤ size_attributes a + noted other
-    keyed-note no_attributes other = omega arith
-    keyed-note (attribute s v a) other = go (is_key c s) (has_value v) (value-notes v) (keyed-note a)
+    keyed_note : (a : Attributes) (other : List Output) → noted (lower_attributes c false a) + noted (lower_key c a other) ≤ size_attributes a + noted other
+    keyed_note no_attributes other = omega arith
+    keyed_note (attribute s v a) other = go (is_key c s) (has_value v) (value_notes v) (keyed_note a)
       where
         go : (k g : Bool) → noted (lower_value c v) ≤ size_value v
             → ((o : List Output) → noted (lower_attributes c false a) + noted (lower_key c a o) ≤ size_attributes a + noted o)
             → noted (cond (k && g && not false) (lower_attributes c false a) (key_notice c s v ++ attribute_name c s ++ lower_value c v ++ lower_attributes c false a))
             + noted (lower_key c a (cond (k && g) (put call.key ++ lower_value c v) other))
             ≤ 5 + size_value v + size_attributes a + noted other
-        go true true w h = omega (arith, h (put call.key ++ lower_value c v), noted-append (put call.key) (lower_value c v))
-        go true false w h = simp noted-append (omega (arith, h other, key-noted c s v, attribute-name-noted c s))
-        go false true w h = simp noted-append (omega (arith, h other, key-noted c s v, attribute-name-noted c s))
-        go false false w h = simp noted-append (omega (arith, h other, key-noted c s v, attribute-name-noted c s))
-    keyed-note (namespaced_attribute s r v a) other =
-        simp noted-append (omega (arith, simp noted-append at (colonized-noted s r), value-notes v, keyed-note a other))
-    keyed-note (spread e a) other = omega (arith, keyed-note a other)
-    keyed-note (literal e ps a) other = simp noted-append (omega (arith, literal-noted c e ps, keyed-note a other))
+        go true true w h = omega (arith, h (put call.key ++ lower_value c v), noted_append (put call.key) (lower_value c v))
+        go true false w h = simp noted_append (omega (arith, h other, key_noted c s v, attribute_name_noted c s))
+        go false true w h = simp noted_append (omega (arith, h other, key_noted c s v, attribute_name_noted c s))
+        go false false w h = simp noted_append (omega (arith, h other, key_noted c s v, attribute_name_noted c s))
+    keyed_note (namespaced_attribute s r v a) other =
+        simp noted_append (omega (arith, simp noted_append at (colonized_noted s r), value_notes v, keyed_note a other))
+    keyed_note (spread e a) other = omega (arith, keyed_note a other)
+    keyed_note (literal e ps a) other = simp noted_append (omega (arith, literal_noted c e ps, keyed_note a other))
 
-    value-notes : (v : Value) → noted (lower_value c v) ≤ size_value v
-    value-notes absent = omega arith
-    value-notes (string s) = simp noted-append (omega (arith, piece-noted s))
-    value-notes (expression e) = omega arith
-    value-notes empty = omega arith
-    value-notes (node_value n) = node-notes n
+    value_notes : (v : Value) → noted (lower_value c v) ≤ size_value v
+    value_notes absent = omega arith
+    value_notes (string s) = simp noted_append (omega (arith, piece_noted s))
+    value_notes (expression e) = omega arith
+    value_notes empty = omega arith
+    value_notes (node_value n) = node_notes n
 
-    children-note : (k : Children) → noted (lower_children c k) ≤ size_children k
-    children-note no_children = omega arith
-    children-note (text_child s k) = simp noted-append (omega (arith, text-noted (jsx_text c.text s), children-note k))
-    children-note (expression_child e k) = omega (arith, children-note k)
-    children-note (empty_child k) = omega (arith, children-note k)
-    children-note (spread_child e k) = omega (arith, children-note k)
-    children-note (node_child n k) = simp noted-append (omega (arith, node-notes n, children-note k))
+    children_note : (k : Children) → noted (lower_children c k) ≤ size_children k
+    children_note no_children = omega arith
+    children_note (text_child s k) = simp noted_append (omega (arith, text_noted (jsx_text c.text s), children_note k))
+    children_note (expression_child e k) = omega (arith, children_note k)
+    children_note (empty_child k) = omega (arith, children_note k)
+    children_note (spread_child e k) = omega (arith, children_note k)
+    children_note (node_child n k) = simp noted_append (omega (arith, node_notes n, children_note k))
 
-pub root-notes : (text tape : List ℕ) (s : Settings) (js : List Import) (r : Root) (u : ℕ) → read_root text tape ≡ done r u
+pub root_notes : (text tape : List ℕ) (s : Settings) (js : List Import) (r : Root) (u : ℕ) → read_root text tape ≡ done r u
     → length (lowered_after text s js r).notices ≤ u
 unfolding lowered_after lower_root
-root-notes text tape s js r u e =
+root_notes text tape s js r u e =
     let c : Context = record { text = text; settings = s; self_allowed = can_add_self r } in
-    omega (arith, notes (lower_node c r.node), node-notes c r.node, root-size text tape r u e)
+    omega (arith, notes (lower_node c r.node), node_notes c r.node, root_size text tape r u e)

@@ -1,9 +1,9 @@
 -- The notices of an opening: where the parts stand that they tell of, and how many bytes they take.
---     notice-append              the bytes of notices one behind the other
---     notice-few, opening-few    a pragma's notice takes five bytes at the most, an opening's notices ten
---     split-length               the parts of a pragma, each with a dot behind it, have one byte more than the pragma
---     tail_within, meta-within, parts_within, part-within     a part that fails lies within its pragma
---     under-within               and so within a text that bears the pragma out
+--     notice_append              the bytes of notices one behind the other
+--     notice_few, opening_few    a pragma's notice takes five bytes at the most, an opening's notices ten
+--     split_length               the parts of a pragma, each with a dot behind it, have one byte more than the pragma
+--     tail_within, meta_within, parts_within, part_within     a part that fails lies within its pragma
+--     under_within               and so within a text that bears the pragma out
 -- Assumes nothing.
 use mathlib.Core.Path.{◌≡◌, refl, sym}
 use mathlib.Core.Bool.{Bool, true, false, cond, not, ◌&&◌}
@@ -28,28 +28,28 @@ use Rattle.definitions.specs.Calls.{Notice, notice_bytes_of, notice_bytes}
 use Rattle.definitions.specs.Pragmas.{onto, split, is_identifier_name, is_reserved_word, tail_from, meta_behind, parts_read, pragma_of, behind_place, pragma_in}
 use Rattle.definitions.specs.Opening.{pragma_under, pragma_notice, opening_notices, opening_bytes}
 use Rattle.definitions.specs.States.{borne_out}
-use Rattle.definitions.proofs.CommentSpans.{in-order}
+use Rattle.definitions.proofs.CommentSpans.{in_order_bounds}
 
 -- ---- their bytes
 
-pub notice-append : (ns ms : List Notice) → notice_bytes (ns ++ ms) ≡ notice_bytes ns ++ notice_bytes ms
+pub notice_append : (ns ms : List Notice) → notice_bytes (ns ++ ms) ≡ notice_bytes ns ++ notice_bytes ms
 unfolding notice_bytes
-notice-append [] ms = refl
-notice-append (n ∷ ns) ms = rw (notice-append ns ms) (sym (append_assoc (notice_bytes_of n) (notice_bytes ns) (notice_bytes ms)))
+notice_append [] ms = refl
+notice_append (n ∷ ns) ms = rw (notice_append ns ms) (sym (append_assoc (notice_bytes_of n) (notice_bytes ns) (notice_bytes ms)))
 
-pub notice-few : (r : PragmaRead) → length (notice_bytes (pragma_notice r)) ≤ 5
+pub notice_few : (r : PragmaRead) → length (notice_bytes (pragma_notice r)) ≤ 5
 unfolding pragma_notice notice_bytes notice_bytes_of
-notice-few read.Absent = omega arith
-notice-few (read.Valid f) = omega arith
-notice-few (read.Invalid i n) = omega arith
+notice_few read.Absent = omega arith
+notice_few (read.Valid f) = omega arith
+notice_few (read.Invalid i n) = omega arith
 
-pub opening-few : (text : List ℕ) (s : Settings) → length (opening_bytes text s) ≤ 10
+pub opening_few : (text : List ℕ) (s : Settings) → length (opening_bytes text s) ≤ 10
 unfolding opening_notices
-opening-few text s =
+opening_few text s =
     let p = pragma_under s.mode text s.options.pragma in
     let f = pragma_under s.mode text s.options.pragma_frag in
-    rw (notice-append (pragma_notice p) (pragma_notice f), length-append (notice_bytes (pragma_notice p)) (notice_bytes (pragma_notice f)))
-    (omega (arith, notice-few p, notice-few f))
+    rw (notice_append (pragma_notice p) (pragma_notice f), length-append (notice_bytes (pragma_notice p)) (notice_bytes (pragma_notice f)))
+    (omega (arith, notice_few p, notice_few f))
 
 -- ---- the parts of a pragma
 
@@ -58,10 +58,10 @@ unfoldable parts_length : List (List ℕ) → ℕ
 parts_length [] = 0
 parts_length (w ∷ ws) = length w + 1 + parts_length ws
 
-split-length : (l : List ℕ) → parts_length (split l) ≡ length l + 1
+split_length : (l : List ℕ) → parts_length (split l) ≡ length l + 1
 unfolding split onto parts_length
-split-length [] = refl
-split-length (b ∷ l) = go (eqb b 0x2e) (split l) (split-length l)
+split_length [] = refl
+split_length (b ∷ l) = go (eqb b 0x2e) (split l) (split_length l)
   where
     go : (t : Bool) (ws : List (List ℕ)) → parts_length ws ≡ length l + 1 → parts_length (cond t ([] ∷ ws) (onto b ws)) ≡ suc (length l) + 1
     go true ws h = omega (arith, h)
@@ -79,10 +79,10 @@ tail_within r n i (w ∷ ws) j m e = go (is_identifier_name w) e (tail_within r 
     go true e ih = omega (arith, ih e)
     go false e ih = let p : i ≡ j = cc in let q : length w ≡ m = cc in omega arith
 
-meta-within : (k : ℕ) (ws : List (List ℕ)) (j m : ℕ) → meta_behind k ws ≡ read.Invalid j m → j + m ≤ k + parts_length ws
+meta_within : (k : ℕ) (ws : List (List ℕ)) (j m : ℕ) → meta_behind k ws ≡ read.Invalid j m → j + m ≤ k + parts_length ws
 unfolding meta_behind parts_length
-meta-within k [] j m e = let p : 0 ≡ j = cc in let q : k ≡ m = cc in omega arith
-meta-within k (w ∷ ws) j m e = go (same w (ascii "meta")) e
+meta_within k [] j m e = let p : 0 ≡ j = cc in let q : k ≡ m = cc in omega arith
+meta_within k (w ∷ ws) j m e = go (same w (ascii "meta")) e
   where
     go : (t : Bool) → cond t (tail_from root.ImportMeta 0 (k + 1 + length w + 1) ws) (read.Invalid 0 k) ≡ read.Invalid j m
         → j + m ≤ k + (length w + 1 + parts_length ws)
@@ -100,13 +100,13 @@ parts_within (w ∷ ws) j m e = go (same w (ascii "this")) (same w (ascii "impor
         ≡ read.Invalid j m
         → j + m ≤ length w + 1 + parts_length ws - 1
     go true b c e = omega (arith, tail_within root.This 0 (length w + 1) ws j m e)
-    go false true c e = omega (arith, meta-within (length w) ws j m e)
+    go false true c e = omega (arith, meta_within (length w) ws j m e)
     go false false true e = omega (arith, tail_within root.Identifier 0 (length w + 1) ws j m e)
     go false false false e = let p : 0 ≡ j = cc in let q : length w ≡ m = cc in omega arith
 
-pub part-within : (l : List ℕ) (j m : ℕ) → pragma_of l ≡ read.Invalid j m → j + m ≤ length l
+pub part_within : (l : List ℕ) (j m : ℕ) → pragma_of l ≡ read.Invalid j m → j + m ≤ length l
 unfolding pragma_of
-part-within l j m e = omega (arith, parts_within (split l) j m e, split-length l)
+part_within l j m e = omega (arith, parts_within (split l) j m e, split_length l)
 
 -- ---- in a text
 
@@ -120,12 +120,12 @@ in_within text s h j m e = go (pragma_of (part_of text s)) refl e
     go (read.Invalid i n) q e =
         let x : s.start + i ≡ j = cc in
         let y : n ≡ m = cc in
-        omega (arith, part-within (part_of text s) i n q, length-take s.len (drop s.start text), (in-order text s h).inside)
+        omega (arith, part_within (part_of text s) i n q, length-take s.len (drop s.start text), (in_order_bounds text s h).inside)
 
-pub under-within : (mode : Mode) (text : List ℕ) (p : Optional) → borne_out text p ≡ true → (j m : ℕ) → pragma_under mode text p ≡ read.Invalid j m
+pub under_within : (mode : Mode) (text : List ℕ) (p : Optional) → borne_out text p ≡ true → (j m : ℕ) → pragma_under mode text p ≡ read.Invalid j m
     → j + m ≤ length text
 unfolding pragma_under pragma_in
-under-within Module text p h j m e = let z : ◌≡◌ {A = ℕ} 0 1 = cc in absurd (omega arith)
-under-within Script text p h j m e = let z : ◌≡◌ {A = ℕ} 0 1 = cc in absurd (omega arith)
-under-within Classic text Absent h j m e = let z : ◌≡◌ {A = ℕ} 0 1 = cc in absurd (omega arith)
-under-within Classic text (Present s) h j m e = in_within text s h j m e
+under_within Module text p h j m e = let z : ◌≡◌ {A = ℕ} 0 1 = cc in absurd (omega arith)
+under_within Script text p h j m e = let z : ◌≡◌ {A = ℕ} 0 1 = cc in absurd (omega arith)
+under_within Classic text Absent h j m e = let z : ◌≡◌ {A = ℕ} 0 1 = cc in absurd (omega arith)
+under_within Classic text (Present s) h j m e = in_within text s h j m e

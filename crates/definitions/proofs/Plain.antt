@@ -1,9 +1,9 @@
 -- Plain output: commands that mention no binding and are no 9F. The parts of a call that are neither its callee, nor an inner element, nor `__source` are plain.
 --     plain, Plain               the test, and that it passes
---     plain-imports              plain output mentions nothing
---     _and_, choice              parts and choices of plain output are plain
---     plain-name, plain-text ..  what is plain
---     commands-append            the commands of an output's parts
+--     plain_imports              plain output mentions nothing
+--     ◌and◌, choice              parts and choices of plain output are plain
+--     plain_name, plain_text ..  what is plain
+--     commands_append            the commands of an output's parts
 -- Assumes nothing.
 use mathlib.Core.Path.{◌≡◌, refl, ap}
 use mathlib.Core.Bool.{Bool, true, false, cond, not, ◌&&◌}
@@ -41,34 +41,34 @@ plain (notify n ∷ os) = plain os
 pub record Plain (os : List Output) : Type 0 where
   pub so : plain os ≡ true
 
-pub commands-append : (xs ys : List Output) → commands_of (xs ++ ys) ≡ commands_of xs ++ commands_of ys
+pub commands_append : (xs ys : List Output) → commands_of (xs ++ ys) ≡ commands_of xs ++ commands_of ys
 unfolding commands_of
-commands-append [] ys = refl
-commands-append (emit c ∷ xs) ys = ap (c ∷◌) (commands-append xs ys)
-commands-append (notify n ∷ xs) ys = commands-append xs ys
+commands_append [] ys = refl
+commands_append (emit c ∷ xs) ys = ap (c ∷◌) (commands_append xs ys)
+commands_append (notify n ∷ xs) ys = commands_append xs ys
 
-pub plain-imports : (os : List Output) → plain os ≡ true → imports_of (commands_of os) ≡ []
+pub plain_imports : (os : List Output) → plain os ≡ true → imports_of (commands_of os) ≡ []
 unfolding plain plain_command commands_of imports_of
-plain-imports [] h = refl
-plain-imports (emit (bare c) ∷ os) h = plain-imports os (both (not (is_callee c)) (plain os) h).1
-plain-imports (emit (byte c n) ∷ os) h = plain-imports os h
-plain-imports (emit (over c e) ∷ os) h = plain-imports os h
-plain-imports (emit (span c s) ∷ os) h = plain-imports os h
-plain-imports (emit (binding i) ∷ os) h = never h
-plain-imports (emit (source i p) ∷ os) h = never h
-plain-imports (notify n ∷ os) h = plain-imports os h
+plain_imports [] h = refl
+plain_imports (emit (bare c) ∷ os) h = plain_imports os (both (not (is_callee c)) (plain os) h).1
+plain_imports (emit (byte c n) ∷ os) h = plain_imports os h
+plain_imports (emit (over c e) ∷ os) h = plain_imports os h
+plain_imports (emit (span c s) ∷ os) h = plain_imports os h
+plain_imports (emit (binding i) ∷ os) h = never h
+plain_imports (emit (source i p) ∷ os) h = never h
+plain_imports (notify n ∷ os) h = plain_imports os h
 
 -- ---- parts and choices
 
-plain-append : (xs ys : List Output) → plain xs ≡ true → plain ys ≡ true → plain (xs ++ ys) ≡ true
+plain_append : (xs ys : List Output) → plain xs ≡ true → plain ys ≡ true → plain (xs ++ ys) ≡ true
 unfolding plain
-plain-append [] ys h k = k
-plain-append (emit c ∷ xs) ys h k =
-    let d = both (plain_command c) (plain xs) h in rw d.0 (plain-append xs ys d.1 k)
-plain-append (notify n ∷ xs) ys h k = plain-append xs ys h k
+plain_append [] ys h k = k
+plain_append (emit c ∷ xs) ys h k =
+    let d = both (plain_command c) (plain xs) h in rw d.0 (plain_append xs ys d.1 k)
+plain_append (notify n ∷ xs) ys h k = plain_append xs ys h k
 
 pub ◌and◌ : {xs ys : List Output} → Plain xs → Plain ys → Plain (xs ++ ys)
-◌and◌ {xs} {ys} h k = record { so = plain-append xs ys h.so k.so }
+◌and◌ {xs} {ys} h k = record { so = plain_append xs ys h.so k.so }
 
 infixl 20 ◌and◌
 pub choice : {xs ys : List Output} (b : Bool) → Plain xs → Plain ys → Plain (cond b xs ys)
@@ -79,9 +79,9 @@ pub none : Plain []
 unfolding plain
 none = record { so = refl }
 
-pub plain-put : (c : Bare) → is_callee c ≡ false → Plain (put c)
+pub plain_put : (c : Bare) → is_callee c ≡ false → Plain (put c)
 unfolding plain plain_command
-plain-put c e = record { so = rw e }
+plain_put c e = record { so = rw e }
 
 pub plain_byte : (c : WithByte) (n : ℕ) → Plain (put_byte c n)
 unfolding plain plain_command
@@ -91,48 +91,48 @@ pub plain_over : (c : WithExpression) (e : ℕ) → Plain (put_over c e)
 unfolding plain plain_command
 plain_over c e = record { so = refl }
 
-plain-span : (c : WithSpan) (s : Span) → Plain (put_span c s)
+plain_span : (c : WithSpan) (s : Span) → Plain (put_span c s)
 unfolding plain plain_command
-plain-span c s = record { so = refl }
+plain_span c s = record { so = refl }
 
-plain-notify : (n : Notice) → Plain (notify n ∷ [])
+plain_notify : (n : Notice) → Plain (notify n ∷ [])
 unfolding plain
-plain-notify n = record { so = refl }
+plain_notify n = record { so = refl }
 
 -- ---- strings and names
 
-plain-piece : (s : Span) → Plain (piece s)
-plain-piece s = choice (eqb s.len 0) none (plain-span call.piece s)
+plain_piece : (s : Span) → Plain (piece s)
+plain_piece s = choice (eqb s.len 0) none (plain_span call.piece s)
 
-plain-quoted : {ps : List Output} → Plain ps → Plain (quoted ps)
+plain_quoted : {ps : List Output} → Plain ps → Plain (quoted ps)
 unfolding bare_code
-plain-quoted h = plain-put call.string_begin refl and h and plain-put call.string_end refl
+plain_quoted h = plain_put call.string_begin refl and h and plain_put call.string_end refl
 
-plain-joined : (ss : List Span) → Plain (joined ss)
+plain_joined : (ss : List Span) → Plain (joined ss)
 unfolding joined bare_code
-plain-joined [] = none
-plain-joined (s ∷ []) = plain-piece s
-plain-joined (s ∷ r ∷ rs) = plain-piece s and plain-put call.space refl and plain-joined (r ∷ rs)
+plain_joined [] = none
+plain_joined (s ∷ []) = plain_piece s
+plain_joined (s ∷ r ∷ rs) = plain_piece s and plain_put call.space refl and plain_joined (r ∷ rs)
 
-pub plain-colonized : (s r : Span) → Plain (colonized s r)
+pub plain_colonized : (s r : Span) → Plain (colonized s r)
 unfolding bare_code
-plain-colonized s r = plain-quoted (plain-piece s and plain-put call.colon refl and plain-piece r)
+plain_colonized s r = plain_quoted (plain_piece s and plain_put call.colon refl and plain_piece r)
 
-plain-members : (ss : List Span) → Plain (members ss)
+plain_members : (ss : List Span) → Plain (members ss)
 unfolding members
-plain-members [] = none
-plain-members (s ∷ ss) = plain-span call.member_name s and plain-members ss
+plain_members [] = none
+plain_members (s ∷ ss) = plain_span call.member_name s and plain_members ss
 
-pub plain-string : (s : Span) → Plain (quoted (piece s))
-plain-string s = plain-quoted (plain-piece s)
+pub plain_string : (s : Span) → Plain (quoted (piece s))
+plain_string s = plain_quoted (plain_piece s)
 
-pub plain-name : (c : Context) (n : Name) → Plain (lower_name c n)
+pub plain_name : (c : Context) (n : Name) → Plain (lower_name c n)
 unfolding lower_name bare_code
-plain-name c (tree.plain s) = plain-string s
-plain-name c (tree.identifier s ms) = plain-span call.identifier s and plain-members ms
-plain-name c (tree.this ms) = plain-put call.this refl and plain-members ms
-plain-name c (tree.namespaced s r) =
-    choice c.settings.options.flags.throw_if_namespace (plain-notify (namespaced_tag s r)) none and plain-colonized s r
+plain_name c (tree.plain s) = plain_string s
+plain_name c (tree.identifier s ms) = plain_span call.identifier s and plain_members ms
+plain_name c (tree.this ms) = plain_put call.this refl and plain_members ms
+plain_name c (tree.namespaced s r) =
+    choice c.settings.options.flags.throw_if_namespace (plain_notify (namespaced_tag s r)) none and plain_colonized s r
 
 -- ---- attributes
 
@@ -142,33 +142,33 @@ plain_carried [] = none
 plain_carried (unnamed e ∷ ps) = plain_over call.carried e and plain_carried ps
 plain_carried (prop_name e s ∷ ps) = plain_over call.carried e and plain_carried ps
 
-pub plain-literal : (c : Context) (e : ℕ) (ps : List Property) → Plain (lower_literal c e ps)
-plain-literal c e ps = choice (has_proto c ps) (plain_over call.spread_property e) (plain_carried ps)
+pub plain_literal : (c : Context) (e : ℕ) (ps : List Property) → Plain (lower_literal c e ps)
+plain_literal c e ps = choice (has_proto c ps) (plain_over call.spread_property e) (plain_carried ps)
 
-pub plain-attribute : (c : Context) (s : Span) → Plain (attribute_name c s)
+pub plain_attribute : (c : Context) (s : Span) → Plain (attribute_name c s)
 unfolding attribute_name bare_code
-plain-attribute c s =
-    choice (is_found (find (eqb 0x2d) (part_of c.text s))) (plain-put call.string_name refl and plain-string s) (plain-span call.name s)
+plain_attribute c s =
+    choice (is_found (find (eqb 0x2d) (part_of c.text s))) (plain_put call.string_name refl and plain_string s) (plain_span call.name s)
 
-pub plain-notice : (c : Context) (s : Span) (v : Value) → Plain (key_notice c s v)
+pub plain_notice : (c : Context) (s : Span) (v : Value) → Plain (key_notice c s v)
 unfolding key_notice
-plain-notice c s v = choice (is_key c s && not (has_value v)) (plain-notify (valueless_key s)) none
+plain_notice c s v = choice (is_key c s && not (has_value v)) (plain_notify (valueless_key s)) none
 
 -- ---- children and what is added
 
-pub plain-text : (ss : List Span) → Plain (lower_text ss)
+pub plain_text : (ss : List Span) → Plain (lower_text ss)
 unfolding lower_text
-plain-text [] = none
-plain-text (s ∷ ss) = plain-quoted (plain-joined (s ∷ ss))
+plain_text [] = none
+plain_text (s ∷ ss) = plain_quoted (plain_joined (s ∷ ss))
 
-pub plain-self : (c : Context) → Plain (self_output c)
+pub plain_self : (c : Context) → Plain (self_output c)
 unfolding self_output bare_code
-plain-self c = choice (c.settings.options.flags.self_plugin && c.self_allowed) (plain-put call.self refl) none
+plain_self c = choice (c.settings.options.flags.self_plugin && c.self_allowed) (plain_put call.self refl) none
 
-pub plain-static : (c : Context) (n : ℕ) → Plain (static_children c n)
+pub plain_static : (c : Context) (n : ℕ) → Plain (static_children c n)
 unfolding static_children bare_code
-plain-static c n = choice (development c) (choice (leb 2 n) (plain-put call.literal_true refl) (plain-put call.literal_false refl)) none
+plain_static c n = choice (development c) (choice (leb 2 n) (plain_put call.literal_true refl) (plain_put call.literal_false refl)) none
 
-pub plain-no-key : (c : Context) → Plain (no_key c)
+pub plain_no_key : (c : Context) → Plain (no_key c)
 unfolding no_key bare_code
-plain-no-key c = choice (development c) (plain-put call.void_zero refl) none
+plain_no_key c = choice (development c) (plain_put call.void_zero refl) none

@@ -1,87 +1,86 @@
 -- Reading a call tape gives back the commands that were written.
---     kind-of-bare, ..       the table of kinds and the codes agree
+--     kind_of_bare, ..       the table of kinds and the codes agree
 --     first_back             the first command of a tape
---     calls_back             all of them: `readCalls (callBytes cs) ≡ cs`
+--     calls_back             all of them: `read_calls (call_bytes cs) ≡ cs`
 -- Assumes nothing.
-use mathlib.Core.Path.{◌≡◌, refl, sym, ap, ◌∙◌}
-use mathlib.Core.List.{List, [], ◌∷◌, ◌++◌, append_assoc}
-use Prim.Native.Nat.{ℕ, zero, suc, ◌+◌, ◌≤◌}
+use mathlib.Core.Path.{◌≡◌, refl, ap, ◌∙◌}
+use mathlib.Core.List.{List, [], ◌∷◌, ◌++◌}
+use Prim.Native.Nat.{ℕ, zero, suc, ◌≤◌}
 use native.Mathlib.Omega.{arith}
-use lib.ListN.{length, drop, length-append}
+use lib.ListN.{length, length-append}
 use lib.Seq.{drop-append_seam}
-use lib.Dec.{ltb}
 use borrow.Author.Tests.{le-ltb}
 use Rattle.commands.specs.declared.root.Place.{Place}
 use Rattle.tape.specs.Numbers.{u16_bytes, u32_bytes, span_bytes}
 use Rattle.commands.specs.Root.{place_at}
-use Rattle.tape.proofs.ReadBack.{u16-back, u32-back, span-back}
+use Rattle.tape.proofs.ReadBack.{u16_back, u32_back, span_back}
 use Rattle.definitions.specs.Calls.{Bare, object_begin, object_end, string_name, null, string_begin, space, string_end, colon, literal_true}
 use Rattle.definitions.specs.Calls.{literal_false, void_zero, this, children_begin, key, tag, callee, self, WithByte, call, children_end, pragma}
 use Rattle.definitions.specs.Calls.{member, call_end, WithExpression, spread_property, carried, sole_spread, expression, spread_item, WithSpan, name}
 use Rattle.definitions.specs.Calls.{piece, identifier, member_name, Command, bare, byte, over, span, binding, source, bare_code, byte_code}
-use Rattle.definitions.specs.Calls.{expression_code, span_code, bytes_of, call_bytes, Kind, is_bare, is_byte, is_over, is_span, is_binding, is_source}
-use Rattle.definitions.specs.Calls.{is_none, lookup, kinds, taking, read_by, read_first, read_from, read_calls}
+use Rattle.definitions.specs.Calls.{expression_code, span_code, bytes_of, call_bytes, is_bare, is_byte, is_over, is_span}
+use Rattle.definitions.specs.Calls.{lookup, kinds, taking, read_by, read_first, read_from, read_calls}
 
-kind-of-bare : (c : Bare) → lookup (bare_code c) kinds ≡ is_bare c
+kind_of_bare : (c : Bare) → lookup (bare_code c) kinds ≡ is_bare c
 unfolding lookup bare_code
-kind-of-bare object_begin = refl
-kind-of-bare object_end = refl
-kind-of-bare string_name = refl
-kind-of-bare null = refl
-kind-of-bare string_begin = refl
-kind-of-bare space = refl
-kind-of-bare string_end = refl
-kind-of-bare colon = refl
-kind-of-bare literal_true = refl
-kind-of-bare literal_false = refl
-kind-of-bare void_zero = refl
-kind-of-bare this = refl
-kind-of-bare children_begin = refl
-kind-of-bare key = refl
-kind-of-bare tag = refl
-kind-of-bare callee = refl
-kind-of-bare self = refl
+kind_of_bare object_begin = refl
+kind_of_bare object_end = refl
+kind_of_bare string_name = refl
+kind_of_bare null = refl
+kind_of_bare string_begin = refl
+kind_of_bare space = refl
+kind_of_bare string_end = refl
+kind_of_bare colon = refl
+kind_of_bare literal_true = refl
+kind_of_bare literal_false = refl
+kind_of_bare void_zero = refl
+kind_of_bare this = refl
+kind_of_bare children_begin = refl
+kind_of_bare key = refl
+kind_of_bare tag = refl
+kind_of_bare callee = refl
+kind_of_bare self = refl
 
-kind-of-byte : (c : WithByte) → lookup (byte_code c) kinds ≡ is_byte c
+kind_of_byte : (c : WithByte) → lookup (byte_code c) kinds ≡ is_byte c
 unfolding lookup byte_code
-kind-of-byte call = refl
-kind-of-byte children_end = refl
-kind-of-byte pragma = refl
-kind-of-byte member = refl
-kind-of-byte call_end = refl
+kind_of_byte call = refl
+kind_of_byte children_end = refl
+kind_of_byte pragma = refl
+kind_of_byte member = refl
+kind_of_byte call_end = refl
 
-kind-of-over : (c : WithExpression) → lookup (expression_code c) kinds ≡ is_over c
+kind_of_over : (c : WithExpression) → lookup (expression_code c) kinds ≡ is_over c
 unfolding lookup expression_code
-kind-of-over spread_property = refl
-kind-of-over carried = refl
-kind-of-over sole_spread = refl
-kind-of-over expression = refl
-kind-of-over spread_item = refl
+kind_of_over spread_property = refl
+kind_of_over carried = refl
+kind_of_over sole_spread = refl
+kind_of_over expression = refl
+kind_of_over spread_item = refl
 
-kind-of-span : (c : WithSpan) → lookup (span_code c) kinds ≡ is_span c
+kind_of_span : (c : WithSpan) → lookup (span_code c) kinds ≡ is_span c
 unfolding lookup span_code
-kind-of-span name = refl
-kind-of-span piece = refl
-kind-of-span identifier = refl
-kind-of-span member_name = refl
+kind_of_span name = refl
+kind_of_span piece = refl
+kind_of_span identifier = refl
+kind_of_span member_name = refl
 
 -- operands that are all there
-taking-all : (ops t : List ℕ) (c : Command ℕ) (next : List ℕ → List (Command ℕ)) → taking (length ops) (ops ++ t) c next ≡ c ∷ next t
-taking-all ops t c next = rw (le-ltb (length (ops ++ t)) (length ops) (omega (arith, length-append ops t)), drop-append_seam ops t)
+taking_all : (ops t : List ℕ) (c : Command ℕ) (next : List ℕ → List (Command ℕ)) → taking (length ops) (ops ++ t) c next ≡ c ∷ next t
+taking_all ops t c next = rw (le-ltb (length (ops ++ t)) (length ops) (omega (arith, length-append ops t)), drop-append_seam ops t)
 
-place-back : (b : ℕ) (p : Place) (t : List ℕ) → place_at (b ∷ (u32_bytes p.line ++ u32_bytes p.column) ++ t) 1 ≡ p
-place-back b p t =
-    λ ι. record { line = u32-back p.line (u32_bytes p.column ++ t) ι; column = u32-back p.column t ι }
+place_back : (b : ℕ) (p : Place) (t : List ℕ) → place_at (b ∷ (u32_bytes p.line ++ u32_bytes p.column) ++ t) 1 ≡ p
+place_back b p t =
+    λ ι. record { line = u32_back p.line (u32_bytes p.column ++ t) ι; column = u32_back p.column t ι }
 
 pub first_back : (c : Command ℕ) (t : List ℕ) (next : List ℕ → List (Command ℕ)) → read_first (bytes_of c ++ t) next ≡ c ∷ next t
 unfolding read_first bytes_of read_by lookup
-first_back (bare c) t next = rw (kind-of-bare c)
-first_back (byte c n) t next = rw (kind-of-byte c) (taking-all (n ∷ []) t (byte c n) next)
-first_back (over c e) t next = rw (kind-of-over c, u16-back e t) (taking-all (u16_bytes e) t (over c e) next)
-first_back (span c s) t next = rw (kind-of-span c, span-back s t) (taking-all (span_bytes s) t (span c s) next)
-first_back (binding b) t next = taking-all (b ∷ []) t (binding b) next
+first_back (bare c) t next = rw (kind_of_bare c)
+first_back (byte c n) t next = rw (kind_of_byte c) (taking_all (n ∷ []) t (byte c n) next)
+first_back (over c e) t next = rw (kind_of_over c, u16_back e t) (taking_all (u16_bytes e) t (over c e) next)
+first_back (span c s) t next = rw (kind_of_span c, span_back s t) (taking_all (span_bytes s) t (span c s) next)
+first_back (binding b) t next = taking_all (b ∷ []) t (binding b) next
 first_back (source b p) t next =
-    rw (place-back b p t) (taking-all (b ∷ u32_bytes p.line ++ u32_bytes p.column) t (source b p) next)
+    rw (place_back b p t) (taking_all (b ∷ u32_bytes p.line ++ u32_bytes p.column) t (source b p) next)
 
 some_byte : (c : Command ℕ) → 1 ≤ length (bytes_of c)
 unfolding bytes_of

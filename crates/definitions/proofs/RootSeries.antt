@@ -1,8 +1,8 @@
 -- What a series of roots has come to, said by the trees of the accepted roots alone: one list of commands, numbered from none, and one list of notices.
---     calls-of-all, notices-of-all     each root's calls in turn are the calls of all commands
+--     calls_of_all_roots, notices_of_all_roots     each root's calls in turn are the calls of all commands
 --     Came, opened                     what a series has come to, and what it comes from
 --     came                             every series from a sound state comes to that
---     series-append                    a longer list of roots
+--     series_append                    a longer list of roots
 -- Assumes nothing.
 use mathlib.Core.Path.{◌≡◌, refl, sym, ap, subst, ◌∙◌}
 use mathlib.Core.Bool.{true}
@@ -25,11 +25,11 @@ use Rattle.definitions.specs.States.{live, imports, sound}
 use Rattle.definitions.specs.Opening.{opening_bytes}
 use Rattle.definitions.specs.Entries.{laid, open_state, Lowered, lowered_after, judge_root, records_from, moved, outcome_by, root_outcome}
 use Rattle.definitions.specs.Series.{World, opening, outcome_in, next, series, if_accepted, accepted_in, tree_of, trees_of, calls_of_all, notices_of_all, calls_so_far, notices_so_far}
-use Rattle.definitions.proofs.Numbering.{bound-append, numbered-append}
-use Rattle.definitions.proofs.Soundness.{imports-records}
-use Rattle.definitions.proofs.Verdicts.{length-laid, take-laid, Taken, root-taken}
-use Rattle.definitions.proofs.Moving.{moved-live, root-sound}
-use Rattle.definitions.proofs.OpeningNotices.{notice-append}
+use Rattle.definitions.proofs.Numbering.{bound_append, numbered_append}
+use Rattle.definitions.proofs.Soundness.{imports_records}
+use Rattle.definitions.proofs.Verdicts.{length_laid, take_laid, Taken, root_taken}
+use Rattle.definitions.proofs.Moving.{moved_live, root_sound}
+use Rattle.definitions.proofs.OpeningNotices.{notice_append}
 use Rattle.definitions.proofs.CalleeTree.{commands_of_roots}
 
 -- ---- the commands and the notices of roots
@@ -38,79 +38,79 @@ unfoldable pub notices_of_roots : List ℕ → Settings → List Root → List N
 notices_of_roots text s [] = []
 notices_of_roots text s (r ∷ rs) = notices_of (lower_root text s r) ++ notices_of_roots text s rs
 
-bytes-append : (cs ds : List (Command ℕ)) → call_bytes (cs ++ ds) ≡ call_bytes cs ++ call_bytes ds
+bytes_append : (cs ds : List (Command ℕ)) → call_bytes (cs ++ ds) ≡ call_bytes cs ++ call_bytes ds
 unfolding call_bytes
-bytes-append [] ds = refl
-bytes-append (c ∷ cs) ds = rw (bytes-append cs ds) (sym (append_assoc (bytes_of c) (call_bytes cs) (call_bytes ds)))
+bytes_append [] ds = refl
+bytes_append (c ∷ cs) ds = rw (bytes_append cs ds) (sym (append_assoc (bytes_of c) (call_bytes cs) (call_bytes ds)))
 
 module _ (text : List ℕ) (s : Settings) where
-  pub commands-roots : (rs ts : List Root) → commands_of_roots text s (rs ++ ts) ≡ commands_of_roots text s rs ++ commands_of_roots text s ts
+  pub commands_roots : (rs ts : List Root) → commands_of_roots text s (rs ++ ts) ≡ commands_of_roots text s rs ++ commands_of_roots text s ts
   unfolding commands_of_roots
-  commands-roots [] ts = refl
-  commands-roots (r ∷ rs) ts =
-      rw (commands-roots rs ts) (sym (append_assoc (commands_of (lower_root text s r)) (commands_of_roots text s rs) (commands_of_roots text s ts)))
+  commands_roots [] ts = refl
+  commands_roots (r ∷ rs) ts =
+      rw (commands_roots rs ts) (sym (append_assoc (commands_of (lower_root text s r)) (commands_of_roots text s rs) (commands_of_roots text s ts)))
 
-  pub notices-roots : (rs ts : List Root) → notices_of_roots text s (rs ++ ts) ≡ notices_of_roots text s rs ++ notices_of_roots text s ts
+  pub notices_roots : (rs ts : List Root) → notices_of_roots text s (rs ++ ts) ≡ notices_of_roots text s rs ++ notices_of_roots text s ts
   unfolding notices_of_roots
-  notices-roots [] ts = refl
-  notices-roots (r ∷ rs) ts =
-      rw (notices-roots rs ts) (sym (append_assoc (notices_of (lower_root text s r)) (notices_of_roots text s rs) (notices_of_roots text s ts)))
+  notices_roots [] ts = refl
+  notices_roots (r ∷ rs) ts =
+      rw (notices_roots rs ts) (sym (append_assoc (notices_of (lower_root text s r)) (notices_of_roots text s rs) (notices_of_roots text s ts)))
 
-  pub calls-of-all : (js : List Import) (rs : List Root) → calls_of_all text s js rs ≡ call_bytes (numbered_all js (commands_of_roots text s rs))
+  pub calls_of_all_roots : (js : List Import) (rs : List Root) → calls_of_all text s js rs ≡ call_bytes (numbered_all js (commands_of_roots text s rs))
   unfolding calls_of_all commands_of_roots lowered_after numbered_all call_bytes
-  calls-of-all js [] = refl
-  calls-of-all js (r ∷ rs) =
+  calls_of_all_roots js [] = refl
+  calls_of_all_roots js (r ∷ rs) =
       let cs = commands_of (lower_root text s r) in
       let ds = commands_of_roots text s rs in
-      ap (λ (l : List ℕ). call_bytes (numbered_all js cs) ++ l) (calls-of-all (bound_after js cs) rs)
-      ∙ sym (bytes-append (numbered_all js cs) (numbered_all (bound_after js cs) ds))
-      ∙ ap call_bytes (sym (numbered-append js cs ds))
+      ap (λ (l : List ℕ). call_bytes (numbered_all js cs) ++ l) (calls_of_all_roots (bound_after js cs) rs)
+      ∙ sym (bytes_append (numbered_all js cs) (numbered_all (bound_after js cs) ds))
+      ∙ ap call_bytes (sym (numbered_append js cs ds))
 
-  pub notices-of-all : (js : List Import) (rs : List Root) → notices_of_all text s js rs ≡ notice_bytes (notices_of_roots text s rs)
+  pub notices_of_all_roots : (js : List Import) (rs : List Root) → notices_of_all text s js rs ≡ notice_bytes (notices_of_roots text s rs)
   unfolding notices_of_all notices_of_roots lowered_after notice_bytes
-  notices-of-all js [] = refl
-  notices-of-all js (r ∷ rs) =
-      rw (notices-of-all (bound_after js (commands_of (lower_root text s r))) rs)
-      (sym (notice-append (notices_of (lower_root text s r)) (notices_of_roots text s rs)))
+  notices_of_all_roots js [] = refl
+  notices_of_all_roots js (r ∷ rs) =
+      rw (notices_of_all_roots (bound_after js (commands_of (lower_root text s r))) rs)
+      (sym (notice_append (notices_of (lower_root text s r)) (notices_of_roots text s rs)))
 
   -- calls and notices of roots that follow others
-  pub calls-roots : (rs ts : List Root)
+  pub calls_roots : (rs ts : List Root)
       → call_bytes (numbered_all [] (commands_of_roots text s (rs ++ ts)))
       ≡ call_bytes (numbered_all [] (commands_of_roots text s rs))
       ++ call_bytes (numbered_all (bound_after [] (commands_of_roots text s rs)) (commands_of_roots text s ts))
-  calls-roots rs ts =
+  calls_roots rs ts =
       let cs = commands_of_roots text s rs in
       let ds = commands_of_roots text s ts in
-      rw (commands-roots rs ts, numbered-append [] cs ds) (bytes-append (numbered_all [] cs) (numbered_all (bound_after [] cs) ds))
+      rw (commands_roots rs ts, numbered_append [] cs ds) (bytes_append (numbered_all [] cs) (numbered_all (bound_after [] cs) ds))
 
-  pub notice-roots : (rs ts : List Root)
+  pub notice_roots : (rs ts : List Root)
       → notice_bytes (notices_of_roots text s (rs ++ ts)) ≡ notice_bytes (notices_of_roots text s rs) ++ notice_bytes (notices_of_roots text s ts)
-  notice-roots rs ts = rw (notices-roots rs ts) (notice-append (notices_of_roots text s rs) (notices_of_roots text s ts))
+  notice_roots rs ts = rw (notices_roots rs ts) (notice_append (notices_of_roots text s rs) (notices_of_roots text s ts))
 
   -- behind the opening's
-  pub later-notices : (rs ts : List Root)
+  pub later_notices : (rs ts : List Root)
       → (opening_bytes text s ++ notice_bytes (notices_of_roots text s rs)) ++ notice_bytes (notices_of_roots text s ts)
       ≡ opening_bytes text s ++ notice_bytes (notices_of_roots text s (rs ++ ts))
-  later-notices rs ts =
+  later_notices rs ts =
       append_assoc (opening_bytes text s) (notice_bytes (notices_of_roots text s rs)) (notice_bytes (notices_of_roots text s ts))
-      ∙ ap (◌++◌ (opening_bytes text s)) (sym (notice-roots rs ts))
+      ∙ ap (◌++◌ (opening_bytes text s)) (sym (notice_roots rs ts))
 
 -- ---- what a series has come to
 
 pub record Came (text : List ℕ) (s : Settings) (w : World) (rs : List Root) : Type 0 where
   pub settings : w.state.settings ≡ s
   pub bore : sound text w.state ≡ true
-  pub calls-within : w.state.calls ≤ length w.calls
-  pub notices-within : w.state.notices ≤ length w.notices
+  pub calls_within : w.state.calls ≤ length w.calls
+  pub notices_within : w.state.notices ≤ length w.notices
   pub recs : live w.state ≡ records_from 0 (bound_after [] (commands_of_roots text s rs))
   pub calls : calls_so_far w ≡ call_bytes (numbered_all [] (commands_of_roots text s rs))
   pub notices : notices_so_far w ≡ opening_bytes text s ++ notice_bytes (notices_of_roots text s rs)
 
 -- what stands at the front of a target behind bytes laid there
-pub front-laid : (bs target : List ℕ) → length bs ≤ length target → take (length bs) (laid 0 bs target) ≡ bs
-front-laid bs target h =
+pub front_laid : (bs target : List ℕ) → length bs ≤ length target → take (length bs) (laid 0 bs target) ≡ bs
+front_laid bs target h =
     let z : length bs ≡ 0 + length bs = omega arith in
-    ap (λ (k : ℕ). take k (laid 0 bs target)) z ∙ take-laid 0 bs target (omega arith)
+    ap (λ (k : ℕ). take k (laid 0 bs target)) z ∙ take_laid 0 bs target (omega arith)
 
 pub opened : (text : List ℕ) (s : Settings) (calls notices : List ℕ) → sound text (open_state text s) ≡ true → length (opening_bytes text s) ≤ length notices
     → Came text s (opening text s calls notices) []
@@ -119,11 +119,11 @@ opened text s calls notices h fits =
     record {
       settings = refl;
       bore = h;
-      calls-within = omega arith;
-      notices-within = rw (length-laid 0 (opening_bytes text s) notices (omega arith)) fits;
+      calls_within = omega arith;
+      notices_within = rw (length_laid 0 (opening_bytes text s) notices (omega arith)) fits;
       recs = refl;
       calls = refl;
-      notices = front-laid (opening_bytes text s) notices fits ∙ sym (append-nil (opening_bytes text s));
+      notices = front_laid (opening_bytes text s) notices fits ∙ sym (append-nil (opening_bytes text s));
     }
 
 -- ---- one root
@@ -145,18 +145,18 @@ module _ (text : List ℕ) (w : World) (tape : List ℕ) where
   unfolding root_outcome
   left_by j e = ap (left w) e
 
-  when-accepted : (outcome_in text w tape).stepped.answer ≡ answer.Accepted → (l : Lowered) × (judged text w tape ≡ accepted l)
+  when_accepted : (outcome_in text w tape).stepped.answer ≡ answer.Accepted → (l : Lowered) × (judged text w tape ≡ accepted l)
   unfolding root_outcome outcome_by
-  when-accepted e = go (judged text w tape) e
+  when_accepted e = go (judged text w tape) e
     where
       go : (j : Judged Lowered) → (outcome_by w.state w.calls w.notices j).stepped.answer ≡ answer.Accepted → (l : Lowered) × (j ≡ accepted l)
       go (accepted l) e = (l, refl)
       go (refused r) e = let z : ◌≡◌ {A = ℕ} 0 1 = cc in absurd (omega arith)
 
   -- a root that is refused changes nothing
-  pub refused-same : (r : Refusal) → (outcome_in text w tape).stepped.answer ≡ answer.Refused r → next text w tape ≡ w
+  pub refused_same : (r : Refusal) → (outcome_in text w tape).stepped.answer ≡ answer.Refused r → next text w tape ≡ w
   unfolding root_outcome outcome_by
-  refused-same r e = go (judged text w tape) e
+  refused_same r e = go (judged text w tape) e
     where
       go : (j : Judged Lowered) → (outcome_by w.state w.calls w.notices j).stepped.answer ≡ answer.Refused r → left w j ≡ w
       go (accepted l) e = let z : ◌≡◌ {A = ℕ} 0 1 = cc in absurd (omega arith)
@@ -174,24 +174,24 @@ module _ (text : List ℕ) (s : Settings) (w : World) (rs : List Root) (tape : L
   -- what is bound before the root is what the commands before it bind
   lowers : lowered_after text s (bound_after [] cs) t.root ≡ l
   lowers =
-      let i : imports (live w.state) ≡ bound_after [] cs = ap imports c.recs ∙ imports-records 0 (bound_after [] cs) in
+      let i : imports (live w.state) ≡ bound_after [] cs = ap imports c.recs ∙ imports_records 0 (bound_after [] cs) in
       sym (λ ι. lowered_after text (c.settings ι) (i ι) t.root) ∙ t.lowers
 
-  one-root : ds ≡ commands_of (lower_root text s t.root)
+  one_root : ds ≡ commands_of (lower_root text s t.root)
   unfolding commands_of_roots
-  one-root = append-nil (commands_of (lower_root text s t.root))
+  one_root = append-nil (commands_of (lower_root text s t.root))
 
-  l-bound : l.bound ≡ bound_after (bound_after [] cs) ds
+  l_bound : l.bound ≡ bound_after (bound_after [] cs) ds
   unfolding lowered_after
-  l-bound = rw one-root (sym (ap (λ (x : Lowered). x.bound) lowers))
+  l_bound = rw one_root (sym (ap (λ (x : Lowered). x.bound) lowers))
 
-  l-calls : l.calls ≡ call_bytes (numbered_all (bound_after [] cs) ds)
+  l_calls : l.calls ≡ call_bytes (numbered_all (bound_after [] cs) ds)
   unfolding lowered_after
-  l-calls = rw one-root (sym (ap (λ (x : Lowered). x.calls) lowers))
+  l_calls = rw one_root (sym (ap (λ (x : Lowered). x.calls) lowers))
 
-  l-notices : l.notices ≡ notice_bytes (notices_of_roots text s (t.root ∷ []))
+  l_notices : l.notices ≡ notice_bytes (notices_of_roots text s (t.root ∷ []))
   unfolding lowered_after notices_of_roots
-  l-notices = rw (append-nil (notices_of (lower_root text s t.root))) (sym (ap (λ (x : Lowered). x.notices) lowers))
+  l_notices = rw (append-nil (notices_of (lower_root text s t.root))) (sym (ap (λ (x : Lowered). x.notices) lowers))
 
   after_one : sound text (moved w.state l) ≡ true → Came text s (left w (accepted l)) (rs ++ t.root ∷ [])
   unfolding outcome_by moved
@@ -199,23 +199,23 @@ module _ (text : List ℕ) (s : Settings) (w : World) (rs : List Root) (tape : L
       record {
         settings = c.settings;
         bore = h;
-        calls-within = rw (length-laid w.state.calls l.calls w.calls t.calls-fit) t.calls-fit;
-        notices-within = rw (length-laid w.state.notices l.notices w.notices t.notices-fit) t.notices-fit;
-        recs = moved-live w.state l ∙ rw (l-bound, commands-roots text s rs (t.root ∷ []), bound-append [] cs ds);
+        calls_within = rw (length_laid w.state.calls l.calls w.calls t.calls_fit) t.calls_fit;
+        notices_within = rw (length_laid w.state.notices l.notices w.notices t.notices_fit) t.notices_fit;
+        recs = moved_live w.state l ∙ rw (l_bound, commands_roots text s rs (t.root ∷ []), bound_append [] cs ds);
         calls =
-            take-laid w.state.calls l.calls w.calls t.calls-fit
-            ∙ rw (c.calls, l-calls) (sym (calls-roots text s rs (t.root ∷ [])));
+            take_laid w.state.calls l.calls w.calls t.calls_fit
+            ∙ rw (c.calls, l_calls) (sym (calls_roots text s rs (t.root ∷ [])));
         notices =
-            take-laid w.state.notices l.notices w.notices t.notices-fit
-            ∙ rw (c.notices, l-notices) (later-notices text s rs (t.root ∷ []));
+            take_laid w.state.notices l.notices w.notices t.notices_fit
+            ∙ rw (c.notices, l_notices) (later_notices text s rs (t.root ∷ []));
       }
 
 taken : (text : List ℕ) (s : Settings) (w : World) (rs : List Root) (tape : List ℕ) (l : Lowered) → Came text s w rs → judged text w tape ≡ accepted l
     → Came text s (left w (accepted l)) (rs ++ tree_of (read_root text tape))
 unfolding tree_of
 taken text s w rs tape l c e =
-    let t = root-taken text w.state tape (length w.calls) (length w.notices) l e in
-    rw t.reads (after_one text s w rs tape l c t (root-sound text w.state tape (length w.calls) (length w.notices) l e))
+    let t = root_taken text w.state tape (length w.calls) (length w.notices) l e in
+    rw t.reads (after_one text s w rs tape l c t (root_sound text w.state tape (length w.calls) (length w.notices) l e))
 
 -- ---- all roots
 
@@ -232,13 +232,13 @@ came text s w rs (t ∷ roots) c = go (outcome_in text w t).stepped.answer refl 
         → ((us : List Root) → Came text s (next text w t) us → Came text s (series text (next text w t) roots) (us ++ trees_of text rest))
         → Came text s (series text (next text w t) roots) (rs ++ trees_of text (if_accepted v t rest))
     go answer.Accepted e ih =
-        let j = when-accepted text w t e in
+        let j = when_accepted text w t e in
         rw append_assoc at
         (ih (rs ++ tree_of (read_root text t))
         (subst (λ (x : World). Came text s x (rs ++ tree_of (read_root text t))) (sym (left_by text w t (accepted j.0) j.1)) (taken text s w rs t j.0 c j.1)))
-    go (answer.Refused r) e ih = ih rs (subst (λ (x : World). Came text s x rs) (sym (refused-same text w t r e)) c)
+    go (answer.Refused r) e ih = ih rs (subst (λ (x : World). Came text s x rs) (sym (refused_same text w t r e)) c)
 
-pub series-append : (text : List ℕ) (w : World) (xs ys : List (List ℕ)) → series text w (xs ++ ys) ≡ series text (series text w xs) ys
+pub series_append : (text : List ℕ) (w : World) (xs ys : List (List ℕ)) → series text w (xs ++ ys) ≡ series text (series text w xs) ys
 unfolding series
-series-append text w [] ys = refl
-series-append text w (x ∷ xs) ys = series-append text (next text w x) xs ys
+series_append text w [] ys = refl
+series_append text w (x ∷ xs) ys = series_append text (next text w x) xs ys

@@ -1,6 +1,6 @@
 -- Sound records: things as records are numbered without gaps, and binding more things repeats none of them and binds only what can be bound.
---     length-records, imports-records, records-numbered     things as records
---     unrepeated-all, bindable-all                          soundness is kept by binding
+--     length_records, imports_records, records_numbered     things as records
+--     unrepeated_all, bindable_all                          soundness is kept by binding
 --     once                                                  of things that are not repeated none stands twice
 -- Assumes nothing.
 use mathlib.Core.Path.{◌≡◌, refl, sym, ap, ◌∙◌}
@@ -18,75 +18,75 @@ use Rattle.definitions.specs.States.{imports, numbered_from, unrepeated, all_bin
 use Rattle.definitions.specs.Entries.{records_from}
 use Rattle.definitions.specs.Claim.{count}
 use Rattle.definitions.proofs.Counting.{never, both}
-use Rattle.definitions.proofs.Numbering.{same-is, number_append, number-added, bound_all}
+use Rattle.definitions.proofs.Numbering.{same_is, number_append, number_added, bound_all}
 
 -- ---- things as records
 
-pub length-records : (k : ℕ) (is : List Import) → length (records_from k is) ≡ length is
+pub length_records : (k : ℕ) (is : List Import) → length (records_from k is) ≡ length is
 unfolding records_from
-length-records k [] = refl
-length-records k (i ∷ is) = ap suc (length-records (suc k) is)
+length_records k [] = refl
+length_records k (i ∷ is) = ap suc (length_records (suc k) is)
 
-pub imports-records : (k : ℕ) (is : List Import) → imports (records_from k is) ≡ is
+pub imports_records : (k : ℕ) (is : List Import) → imports (records_from k is) ≡ is
 unfolding records_from
-imports-records k [] = refl
-imports-records k (i ∷ is) = ap (i ∷◌) (imports-records (suc k) is)
+imports_records k [] = refl
+imports_records k (i ∷ is) = ap (i ∷◌) (imports_records (suc k) is)
 
-pub records-numbered : (k : ℕ) (is : List Import) → numbered_from k (records_from k is) ≡ true
+pub records_numbered : (k : ℕ) (is : List Import) → numbered_from k (records_from k is) ≡ true
 unfolding records_from numbered_from
-records-numbered k [] = refl
-records-numbered k (i ∷ is) = rw (eq-eqb k k refl) (records-numbered (suc k) is)
+records_numbered k [] = refl
+records_numbered k (i ∷ is) = rw (eq-eqb k k refl) (records_numbered (suc k) is)
 
 -- ---- nothing is repeated
 
-unrepeated-cons : (seen : List Import) (i : Import) (is : List Import) → unrepeated seen (i ∷ is) ≡ true
+unrepeated_cons : (seen : List Import) (i : Import) (is : List Import) → unrepeated seen (i ∷ is) ≡ true
     → (is_bound seen i ≡ false) × (unrepeated (seen ++ i ∷ []) is ≡ true)
 unfolding unrepeated
-unrepeated-cons seen i is h =
+unrepeated_cons seen i is h =
     let p = both (not (is_bound seen i)) (unrepeated (seen ++ i ∷ []) is) h in (not-true (is_bound seen i) p.0, p.1)
 
-unrepeated-snoc : (seen is : List Import) (i : Import) → unrepeated seen is ≡ true → is_bound (seen ++ is) i ≡ false
+unrepeated_snoc : (seen is : List Import) (i : Import) → unrepeated seen is ≡ true → is_bound (seen ++ is) i ≡ false
     → unrepeated seen (is ++ i ∷ []) ≡ true
 unfolding unrepeated
-unrepeated-snoc seen [] i h e = rw (rw append-nil at e)
-unrepeated-snoc seen (j ∷ is) i h e =
-    let d = unrepeated-cons seen j is h in
-    rw d.0 (unrepeated-snoc (seen ++ j ∷ []) is i d.1 (rw (← append_snoc seen j is) at e))
+unrepeated_snoc seen [] i h e = rw (rw append-nil at e)
+unrepeated_snoc seen (j ∷ is) i h e =
+    let d = unrepeated_cons seen j is h in
+    rw d.0 (unrepeated_snoc (seen ++ j ∷ []) is i d.1 (rw (← append_snoc seen j is) at e))
 
-unrepeated-bound : (js : List Import) (i : Import) → unrepeated [] js ≡ true → unrepeated [] (bound js i) ≡ true
+unrepeated_bound : (js : List Import) (i : Import) → unrepeated [] js ≡ true → unrepeated [] (bound js i) ≡ true
 unfolding bound
-unrepeated-bound js i h = go (is_bound js i) refl
+unrepeated_bound js i h = go (is_bound js i) refl
   where
     go : (b : Bool) → is_bound js i ≡ b → unrepeated [] (cond b js (js ++ i ∷ [])) ≡ true
     go true e = h
-    go false e = unrepeated-snoc [] js i h e
+    go false e = unrepeated_snoc [] js i h e
 
-pub unrepeated-all : (js is : List Import) → unrepeated [] js ≡ true → unrepeated [] (bound_all js is) ≡ true
+pub unrepeated_all : (js is : List Import) → unrepeated [] js ≡ true → unrepeated [] (bound_all js is) ≡ true
 unfolding bound_all
-unrepeated-all js [] h = h
-unrepeated-all js (i ∷ is) h = unrepeated-all (bound js i) is (unrepeated-bound js i h)
+unrepeated_all js [] h = h
+unrepeated_all js (i ∷ is) h = unrepeated_all (bound js i) is (unrepeated_bound js i h)
 
 -- a thing that stands among those seen is none of those that follow
-none-again : (seen is : List Import) (i : Import) → unrepeated seen is ≡ true → number_in seen i < length seen → count (λ j. same_import j i) is ≡ 0
+none_again : (seen is : List Import) (i : Import) → unrepeated seen is ≡ true → number_in seen i < length seen → count (λ j. same_import j i) is ≡ 0
 unfolding count
-none-again seen [] i h l = refl
-none-again seen (j ∷ is) i h l =
-    let d = unrepeated-cons seen j is h in
+none_again seen [] i h l = refl
+none_again seen (j ∷ is) i h l =
+    let d = unrepeated_cons seen j is h in
     let k : number_in (seen ++ j ∷ []) i < length (seen ++ j ∷ []) =
     omega (arith, number_append seen (j ∷ []) i l, length-append seen (j ∷ [])) in
-    go (same_import j i) refl d.0 (none-again (seen ++ j ∷ []) is i d.1 k)
+    go (same_import j i) refl d.0 (none_again (seen ++ j ∷ []) is i d.1 k)
   where
     go : (b : Bool) → same_import j i ≡ b → is_bound seen j ≡ false → count (λ j. same_import j i) is ≡ 0
         → cond b (suc (count (λ j. same_import j i) is)) (count (λ j. same_import j i) is) ≡ 0
-    go true e f k = never (sym f ∙ rw (same-is j i e) (lt-ltb (number_in seen i) (length seen) l))
+    go true e f k = never (sym f ∙ rw (same_is j i e) (lt-ltb (number_in seen i) (length seen) l))
     go false e f k = k
 
 pub once : (seen is : List Import) (i : Import) → unrepeated seen is ≡ true → count (λ j. same_import j i) is ≤ 1
 unfolding count
 once seen [] i h = omega arith
 once seen (j ∷ is) i h =
-    let d = unrepeated-cons seen j is h in
-    go (same_import j i) refl d.0 (none-again (seen ++ j ∷ []) is i d.1) (once (seen ++ j ∷ []) is i d.1)
+    let d = unrepeated_cons seen j is h in
+    go (same_import j i) refl d.0 (none_again (seen ++ j ∷ []) is i d.1) (once (seen ++ j ∷ []) is i d.1)
   where
     go : (b : Bool) → same_import j i ≡ b → is_bound seen j ≡ false
         → (number_in (seen ++ j ∷ []) i < length (seen ++ j ∷ []) → count (λ j. same_import j i) is ≡ 0)
@@ -94,29 +94,29 @@ once seen (j ∷ is) i h =
         → cond b (suc (count (λ j. same_import j i) is)) (count (λ j. same_import j i) is) ≤ 1
     go true e f k o =
         let g : number_in (seen ++ j ∷ []) i ≡ length seen =
-        rw (← same-is j i e) (number-added seen [] j (ltb-false (number_in seen j) (length seen) f)) in
+        rw (← same_is j i e) (number_added seen [] j (ltb-false (number_in seen j) (length seen) f)) in
         omega (arith, k (omega (arith, g, length-append seen (j ∷ []))))
     go false e f k o = o
 
 -- ---- all can be bound
 
-pub bindable-append : (s : Settings) (is js : List Import) → all_bindable s (is ++ js) ≡ (all_bindable s is && all_bindable s js)
+pub bindable_append : (s : Settings) (is js : List Import) → all_bindable s (is ++ js) ≡ (all_bindable s is && all_bindable s js)
 unfolding all_bindable
-bindable-append s [] js = refl
-bindable-append s (i ∷ is) js = go (can_bind s i) (bindable-append s is js)
+bindable_append s [] js = refl
+bindable_append s (i ∷ is) js = go (can_bind s i) (bindable_append s is js)
   where
     go : (b : Bool) → all_bindable s (is ++ js) ≡ (all_bindable s is && all_bindable s js)
         → (b && all_bindable s (is ++ js)) ≡ (b && all_bindable s is && all_bindable s js)
     go true h = h
     go false h = refl
 
-pub bindable-all : (s : Settings) (js is : List Import) → all_bindable s js ≡ true → all_bindable s is ≡ true → all_bindable s (bound_all js is) ≡ true
+pub bindable_all : (s : Settings) (js is : List Import) → all_bindable s js ≡ true → all_bindable s is ≡ true → all_bindable s (bound_all js is) ≡ true
 unfolding all_bindable bound_all bound
-bindable-all s js [] h k = h
-bindable-all s js (i ∷ is) h k =
+bindable_all s js [] h k = h
+bindable_all s js (i ∷ is) h k =
     let d = both (can_bind s i) (all_bindable s is) k in
-    bindable-all s (bound js i) is (go (is_bound js i) d.0) d.1
+    bindable_all s (bound js i) is (go (is_bound js i) d.0) d.1
   where
     go : (b : Bool) → can_bind s i ≡ true → all_bindable s (cond b js (js ++ i ∷ [])) ≡ true
     go true e = h
-    go false e = rw (bindable-append s js (i ∷ []), h, e)
+    go false e = rw (bindable_append s js (i ∷ []), h, e)

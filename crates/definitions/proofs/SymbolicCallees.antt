@@ -1,8 +1,8 @@
 -- Callees read off commands that name bindings by what they are, and output that can be read in parts.
---     calleeFor, calleeAfter, calleesOf     the callees of commands
+--     callee_for, callee_after, callees_of  the callees of commands
 --     Reads                                 an output of which the callees are these, whatever follows
---     _joined_, _onward_, _still_           parts that read make a whole that reads
---     closing-reads                         the end of a call reads as its callee
+--     ◌joined◌, ◌onward◌, ◌still◌           parts that read make a whole that reads
+--     closing_reads                         the end of a call reads as its callee
 -- Assumes nothing.
 use mathlib.Core.Path.{◌≡◌, refl, sym, ap, subst, ◌∙◌}
 use mathlib.Core.Bool.{Bool, true, false, cond, not, ◌&&◌}
@@ -19,7 +19,7 @@ use Rattle.definitions.specs.Store.{numbered}
 use Rattle.definitions.specs.Callees.{Callee, callee_named, name_behind, is_callee}
 use Rattle.definitions.specs.Lowering.{Context, Output, emit, notify, put, put_byte, imported, source_output, is_classic, pure_byte, closing, commands_of}
 use Rattle.definitions.proofs.Counting.{never}
-use Rattle.definitions.proofs.Plain.{plain, plain_command, Plain, plain-put, plain_byte, commands-append}
+use Rattle.definitions.proofs.Plain.{plain, plain_command, Plain, plain_put, plain_byte, commands_append}
 
 -- ---- callees of commands
 
@@ -64,7 +64,7 @@ pub ◌joined◌ : {xs ys : List Output} {ns ms : List ℕ} → Reads xs ns → 
     record {
       so = λ rest.
           rw (
-            commands-append xs ys,
+            commands_append xs ys,
             append_assoc (commands_of xs) (commands_of ys) rest,
             map-append callee_named ns ms,
             append_assoc
@@ -73,35 +73,35 @@ pub ◌joined◌ : {xs ys : List Output} {ns ms : List ℕ} → Reads xs ns → 
           (h.so (commands_of ys ++ rest) ∙ ap (λ (l : List Callee). map callee_named ns ++ l) (k.so rest));
     }
 
-plain-so : (os : List Output) → plain os ≡ true → (rest : List (Command Import)) → callees_of (commands_of os ++ rest) ≡ callees_of rest
+plain_so : (os : List Output) → plain os ≡ true → (rest : List (Command Import)) → callees_of (commands_of os ++ rest) ≡ callees_of rest
 unfolding plain plain_command commands_of callees_of
-plain-so [] h rest = refl
-plain-so (emit (bare c) ∷ os) h rest = go (is_callee c) h (plain-so os)
+plain_so [] h rest = refl
+plain_so (emit (bare c) ∷ os) h rest = go (is_callee c) h (plain_so os)
   where
     go : (b : Bool) → (not b && plain os) ≡ true
         → (plain os ≡ true → (rest : List (Command Import)) → callees_of (commands_of os ++ rest) ≡ callees_of rest)
         → cond b (callee_after (commands_of os ++ rest)) [] ++ callees_of (commands_of os ++ rest) ≡ callees_of rest
     go true h ih = never h
     go false h ih = ih h rest
-plain-so (emit (byte c n) ∷ os) h rest = plain-so os h rest
-plain-so (emit (over c e) ∷ os) h rest = plain-so os h rest
-plain-so (emit (span c s) ∷ os) h rest = plain-so os h rest
-plain-so (emit (binding i) ∷ os) h rest = never h
-plain-so (emit (source i p) ∷ os) h rest = never h
-plain-so (notify n ∷ os) h rest = plain-so os h rest
+plain_so (emit (byte c n) ∷ os) h rest = plain_so os h rest
+plain_so (emit (over c e) ∷ os) h rest = plain_so os h rest
+plain_so (emit (span c s) ∷ os) h rest = plain_so os h rest
+plain_so (emit (binding i) ∷ os) h rest = never h
+plain_so (emit (source i p) ∷ os) h rest = never h
+plain_so (notify n ∷ os) h rest = plain_so os h rest
 
-pub plain-reads : {os : List Output} → Plain os → Reads os []
-plain-reads {os} h = record { so = plain-so os h.so }
+pub plain_reads : {os : List Output} → Plain os → Reads os []
+plain_reads {os} h = record { so = plain_so os h.so }
 
 -- plain output behind, and before
 pub ◌still◌ : {xs ys : List Output} {ns : List ℕ} → Reads xs ns → Plain ys → Reads (xs ++ ys) ns
-◌still◌ {xs} {ys} {ns} h k = subst (Reads (xs ++ ys)) (append-nil ns) (h joined plain-reads k)
+◌still◌ {xs} {ys} {ns} h k = subst (Reads (xs ++ ys)) (append-nil ns) (h joined plain_reads k)
 
 pub ◌onward◌ : {xs ys : List Output} {ns : List ℕ} → Plain xs → Reads ys ns → Reads (xs ++ ys) ns
-◌onward◌ h k = plain-reads h joined k
+◌onward◌ h k = plain_reads h joined k
 
-pub quiet-onward : {xs ys : List Output} {ns : List ℕ} → Reads xs ns → Reads ys [] → Reads (xs ++ ys) ns
-quiet-onward {xs} {ys} {ns} h k = subst (Reads (xs ++ ys)) (append-nil ns) (h joined k)
+pub quiet_onward : {xs ys : List Output} {ns : List ℕ} → Reads xs ns → Reads ys [] → Reads (xs ++ ys) ns
+quiet_onward {xs} {ys} {ns} h k = subst (Reads (xs ++ ys)) (append-nil ns) (h joined k)
 
 pub choose : {xs ys : List Output} {ns : List ℕ} (b : Bool) → Reads xs ns → Reads ys ns → Reads (cond b xs ys) ns
 choose true h k = h
@@ -109,27 +109,27 @@ choose false h k = k
 
 -- ---- `__source` and the end of a call
 
-pub source-reads : (c : Context) (p : Place) → Reads (source_output c p) []
+pub source_reads : (c : Context) (p : Place) → Reads (source_output c p) []
 unfolding source_output commands_of callees_of
-source-reads c p = choose c.settings.options.flags.source_plugin (record { so = λ rest. refl }) (record { so = λ rest. refl })
+source_reads c p = choose c.settings.options.flags.source_plugin (record { so = λ rest. refl }) (record { so = λ rest. refl })
 
-pub tag-reads : (m : Mode) (n k : ℕ) → Reads (imported m n k) []
+pub tag_reads : (m : Mode) (n k : ℕ) → Reads (imported m n k) []
 unfolding imported commands_of callees_of
-tag-reads Module n k = record { so = λ rest. refl }
-tag-reads Script n k = record { so = λ rest. refl }
-tag-reads Classic n k = record { so = λ rest. refl }
+tag_reads Module n k = record { so = λ rest. refl }
+tag_reads Script n k = record { so = λ rest. refl }
+tag_reads Classic n k = record { so = λ rest. refl }
 
 -- 9F and the callee
-callee-reads : (m : Mode) (n : ℕ) → is_classic m ≡ false → Reads (put call.callee ++ imported m n 0) (n ∷ [])
+callee_reads : (m : Mode) (n : ℕ) → is_classic m ≡ false → Reads (put call.callee ++ imported m n 0) (n ∷ [])
 unfolding imported commands_of callees_of callee_after callee_for bare_code byte_code is_classic name_behind numbered
-callee-reads Module n e = record { so = λ rest. refl }
-callee-reads Script n e = record { so = λ rest. refl }
-callee-reads Classic n e = never (sym e)
+callee_reads Module n e = record { so = λ rest. refl }
+callee_reads Script n e = record { so = λ rest. refl }
+callee_reads Classic n e = never (sym e)
 
-pub closing-reads : (c : Context) {tag : List Output} (n : ℕ) → is_classic c.settings.mode ≡ false → Reads tag [] → Reads (closing c tag n) (n ∷ [])
+pub closing_reads : (c : Context) {tag : List Output} (n : ℕ) → is_classic c.settings.mode ≡ false → Reads tag [] → Reads (closing c tag n) (n ∷ [])
 unfolding bare_code
-closing-reads c {tag} n e h =
+closing_reads c {tag} n e h =
     subst (λ (l : List Output). Reads l (n ∷ []))
     (ap (λ (l : List Output). l ++ put_byte call.call_end (pure_byte c.settings.pure))
     (sym (append_assoc (put call.tag ++ tag) (put call.callee) (imported c.settings.mode n 0))))
-    ((plain-put call.tag refl onward h) joined callee-reads c.settings.mode n e still plain_byte call.call_end (pure_byte c.settings.pure))
+    ((plain_put call.tag refl onward h) joined callee_reads c.settings.mode n e still plain_byte call.call_end (pure_byte c.settings.pure))

@@ -1,8 +1,8 @@
 -- What a record tape says: each record once, with its source, its name and its number.
---     entry_of, groupEntries, fileEntries   the entries of a record, of groups, and of the file name
---     tape-read                            reading a record tape
---     all-grouped                          the source of each record has exactly one group
---     tape-count                           on a record tape as many entries pass a test as among the records
+--     entry_of, group_entries, file_entries  the entries of a record, of groups, and of the file name
+--     tape_read                            reading a record tape
+--     all_grouped                          the source of each record has exactly one group
+--     tape_count                           on a record tape as many entries pass a test as among the records
 -- Assumes nothing.
 use mathlib.Core.Path.{◌≡◌, refl, sym, ap, ◌∙◌}
 use mathlib.Core.Bool.{Bool, true, false, cond, ◌||◌}
@@ -18,7 +18,7 @@ use Rattle.definitions.specs.declared.records.Record.{Record}
 use Rattle.definitions.specs.Records.{without, is_among, with_group, grouped_by, groups_from, entry_in, entries_in, group_tape, place_in, file_name_entry}
 use Rattle.definitions.specs.Records.{file_name_tape, record_tape, Entry, named, required, file, command, entries_from, read_records}
 use Rattle.definitions.specs.Claim.{count}
-use Rattle.definitions.proofs.Counting.{never, count-nil, count-append}
+use Rattle.definitions.proofs.Counting.{never, count_nil, count_append}
 
 -- ---- the entries of records
 
@@ -71,26 +71,26 @@ entry_read s (Default r) b t = go (eqb s r)
     go false = refl
 entry_read s FileName b t = refl
 
-group-read : (s : ℕ) (rs : List Record) (t : List ℕ) → entries_from (command s) (entries_in s rs ++ t) ≡ all_in_group s rs ++ entries_from (command s) t
+group_read : (s : ℕ) (rs : List Record) (t : List ℕ) → entries_from (command s) (entries_in s rs ++ t) ≡ all_in_group s rs ++ entries_from (command s) t
 unfolding entries_in all_in_group
-group-read s [] t = refl
-group-read s (r ∷ rs) t =
+group_read s [] t = refl
+group_read s (r ∷ rs) t =
     rw (append_assoc (entry_in s r.import r.binding) (entries_in s rs) t, append_assoc (in_group s r.import r.binding) (all_in_group s rs) (entries_from (command s) t))
-    (entry_read s r.import r.binding (entries_in s rs ++ t) ∙ ap (λ (l : List Entry). in_group s r.import r.binding ++ l) (group-read s rs t))
+    (entry_read s r.import r.binding (entries_in s rs ++ t) ∙ ap (λ (l : List Entry). in_group s r.import r.binding ++ l) (group_read s rs t))
 
 -- groups before a tape that reads alike under every source
-groups-read : (x : ℕ) (rs : List Record) (ss : List ℕ) (t : List ℕ) (es : List Entry) → ((y : ℕ) → entries_from (command y) t ≡ es)
+groups_read : (x : ℕ) (rs : List Record) (ss : List ℕ) (t : List ℕ) (es : List Entry) → ((y : ℕ) → entries_from (command y) t ≡ es)
     → entries_from (command x) (group_tape rs ss ++ t) ≡ group_entries rs ss ++ es
 unfolding group_tape group_entries entries_from
-groups-read x rs [] t es h = h x
-groups-read x rs (s ∷ ss) t es h =
+groups_read x rs [] t es h = h x
+groups_read x rs (s ∷ ss) t es h =
     rw (append_assoc (entries_in s rs) (group_tape rs ss) t, append_assoc (all_in_group s rs) (group_entries rs ss) es)
-    (group-read s rs (group_tape rs ss ++ t) ∙ ap (λ (l : List Entry). all_in_group s rs ++ l) (groups-read s rs ss t es h))
+    (group_read s rs (group_tape rs ss ++ t) ∙ ap (λ (l : List Entry). all_in_group s rs ++ l) (groups_read s rs ss t es h))
 
-file-read : (place : ℕ) (rs : List Record) (x : ℕ) → entries_from (command x) (file_name_tape place rs) ≡ file_entries place rs
+file_read : (place : ℕ) (rs : List Record) (x : ℕ) → entries_from (command x) (file_name_tape place rs) ≡ file_entries place rs
 unfolding file_name_tape file_entries entries_from file_name_entry file_entry
-file-read place [] x = refl
-file-read place (r ∷ rs) x = go r.import (file-read place rs x)
+file_read place [] x = refl
+file_read place (r ∷ rs) x = go r.import (file_read place rs x)
   where
     go : (i : Import) → entries_from (command x) (file_name_tape place rs) ≡ file_entries place rs
         → entries_from (command x) (file_name_entry place i r.binding ++ file_name_tape place rs) ≡ file_entry place i r.binding ++ file_entries place rs
@@ -98,29 +98,29 @@ file-read place (r ∷ rs) x = go r.import (file-read place rs x)
     go (Default s) ih = ih
     go FileName ih = ap (file r.binding place ∷◌) ih
 
-pub tape-read : (m : Mode) (rs : List Record)
+pub tape_read : (m : Mode) (rs : List Record)
     → read_records (record_tape m rs) ≡ group_entries rs (groups_from [] rs) ++ file_entries (place_in m) rs
 unfolding record_tape
-tape-read m rs =
-    groups-read 0 rs (groups_from [] rs) (file_name_tape (place_in m) rs) (file_entries (place_in m) rs) (λ y. file-read (place_in m) rs y)
+tape_read m rs =
+    groups_read 0 rs (groups_from [] rs) (file_name_tape (place_in m) rs) (file_entries (place_in m) rs) (λ y. file_read (place_in m) rs y)
 
 -- ---- each source has one group
 
-pub eqb-sym : (a b : ℕ) → eqb a b ≡ eqb b a
-eqb-sym a b = go (eqb b a) refl
+pub eqb_sym : (a b : ℕ) → eqb a b ≡ eqb b a
+eqb_sym a b = go (eqb b a) refl
   where
     go : (q : Bool) → eqb b a ≡ q → eqb a b ≡ q
     go true e = eq-eqb a b (sym (eqb-true b a e))
     go false e = ne_eqb a b (λ p. eqb-false b a e (sym p))
 
-without-count : (t s : ℕ) (gs : List ℕ) → count (eqb t) (without s gs) ≡ cond (eqb s t) 0 (count (eqb t) gs)
+without_count : (t s : ℕ) (gs : List ℕ) → count (eqb t) (without s gs) ≡ cond (eqb s t) 0 (count (eqb t) gs)
 unfolding count without
-without-count t s [] = go (eqb s t)
+without_count t s [] = go (eqb s t)
   where
     go : (b : Bool) → ◌≡◌ {A = ℕ} 0 (cond b 0 0)
     go true = refl
     go false = refl
-without-count t s (g ∷ gs) = go (eqb s g) refl (eqb s t) refl (eqb t g) refl (without-count t s gs)
+without_count t s (g ∷ gs) = go (eqb s g) refl (eqb s t) refl (eqb t g) refl (without_count t s gs)
   where
     go : (a : Bool) → eqb s g ≡ a → (b : Bool) → eqb s t ≡ b → (d : Bool) → eqb t g ≡ d
         → count (eqb t) (without s gs) ≡ cond b 0 (count (eqb t) gs)
@@ -133,44 +133,44 @@ without-count t s (g ∷ gs) = go (eqb s g) refl (eqb s t) refl (eqb t g) refl (
     go false p false q true r ih = rw r (ap suc ih)
     go false p false q false r ih = rw r ih
 
-among-count : (s : ℕ) (gs : List ℕ) → is_among s gs ≡ false → count (eqb s) gs ≡ 0
+among_count : (s : ℕ) (gs : List ℕ) → is_among s gs ≡ false → count (eqb s) gs ≡ 0
 unfolding count is_among
-among-count s [] h = refl
-among-count s (g ∷ gs) h = go (eqb s g) h (among-count s gs)
+among_count s [] h = refl
+among_count s (g ∷ gs) h = go (eqb s g) h (among_count s gs)
   where
     go : (b : Bool) → (b || is_among s gs) ≡ false → (is_among s gs ≡ false → count (eqb s) gs ≡ 0)
         → cond b (suc (count (eqb s) gs)) (count (eqb s) gs) ≡ 0
     go true h ih = never (sym h)
     go false h ih = ih h
 
-among-some : (s : ℕ) (gs : List ℕ) → is_among s gs ≡ true → 0 < count (eqb s) gs
+among_some : (s : ℕ) (gs : List ℕ) → is_among s gs ≡ true → 0 < count (eqb s) gs
 unfolding count is_among
-among-some s [] h = never h
-among-some s (g ∷ gs) h = go (eqb s g) h (among-some s gs)
+among_some s [] h = never h
+among_some s (g ∷ gs) h = go (eqb s g) h (among_some s gs)
   where
     go : (b : Bool) → (b || is_among s gs) ≡ true → (is_among s gs ≡ true → 0 < count (eqb s) gs)
         → 0 < cond b (suc (count (eqb s) gs)) (count (eqb s) gs)
     go true h ih = omega arith
     go false h ih = ih h
 
-group-count : (f : Bool) (t s : ℕ) (gs : List ℕ) → count (eqb t) gs ≤ 1 → count (eqb t) (with_group f s gs) ≡ cond (eqb s t) 1 (count (eqb t) gs)
+group_count : (f : Bool) (t s : ℕ) (gs : List ℕ) → count (eqb t) gs ≤ 1 → count (eqb t) (with_group f s gs) ≡ cond (eqb s t) 1 (count (eqb t) gs)
 unfolding with_group count
-group-count true t s gs h = rw (without-count t s gs, eqb-sym t s) (go (eqb s t))
+group_count true t s gs h = rw (without_count t s gs, eqb_sym t s) (go (eqb s t))
   where
     go : (b : Bool) → cond b (suc (cond b 0 (count (eqb t) gs))) (cond b 0 (count (eqb t) gs)) ≡ cond b 1 (count (eqb t) gs)
     go true = refl
     go false = refl
-group-count false t s gs h = go (is_among s gs) refl (eqb s t) refl
+group_count false t s gs h = go (is_among s gs) refl (eqb s t) refl
   where
     last : count (eqb t) (gs ++ s ∷ []) ≡ count (eqb t) gs + cond (eqb s t) 1 0
-    last = count-append (eqb t) gs (s ∷ []) ∙ rw (eqb-sym t s)
+    last = count_append (eqb t) gs (s ∷ []) ∙ rw (eqb_sym t s)
 
     go : (a : Bool) → is_among s gs ≡ a → (b : Bool) → eqb s t ≡ b → count (eqb t) (cond a gs (gs ++ s ∷ [])) ≡ cond b 1 (count (eqb t) gs)
     go true p true q =
-        let k : 0 < count (eqb t) gs = rw (eqb-true s t q) at (among-some s gs p) in omega arith
+        let k : 0 < count (eqb t) gs = rw (eqb-true s t q) at (among_some s gs p) in omega arith
     go true p false q = refl
     go false p true q =
-        let k : count (eqb t) gs ≡ 0 = rw (eqb-true s t q) at (among-count s gs p) in
+        let k : count (eqb t) gs ≡ 0 = rw (eqb-true s t q) at (among_count s gs p) in
         let l = rw q at last in omega (arith, l)
     go false p false q = let l = rw q at last in omega (arith, l)
 
@@ -184,73 +184,73 @@ Grouped gs (Named s n) = count (eqb s) gs ≡ 1
 Grouped gs (Default s) = count (eqb s) gs ≡ 1
 Grouped gs FileName = Unit {0}
 
-with-distinct : (f : Bool) (s : ℕ) (gs : List ℕ) → Distinct gs → Distinct (with_group f s gs)
-with-distinct f s gs h t = rw (group-count f t s gs (h t)) (go (eqb s t))
+with_distinct : (f : Bool) (s : ℕ) (gs : List ℕ) → Distinct gs → Distinct (with_group f s gs)
+with_distinct f s gs h t = rw (group_count f t s gs (h t)) (go (eqb s t))
   where
     go : (b : Bool) → cond b 1 (count (eqb t) gs) ≤ 1
     go true = omega arith
     go false = h t
 
-with-kept : (f : Bool) (t s : ℕ) (gs : List ℕ) → count (eqb t) gs ≡ 1 → count (eqb t) (with_group f s gs) ≡ 1
-with-kept f t s gs h = rw (group-count f t s gs (omega arith), h) (go (eqb s t))
+with_kept : (f : Bool) (t s : ℕ) (gs : List ℕ) → count (eqb t) gs ≡ 1 → count (eqb t) (with_group f s gs) ≡ 1
+with_kept f t s gs h = rw (group_count f t s gs (omega arith), h) (go (eqb s t))
   where
     go : (b : Bool) → ◌≡◌ {A = ℕ} (cond b 1 1) 1
     go true = refl
     go false = refl
 
-with-new : (f : Bool) (s : ℕ) (gs : List ℕ) → Distinct gs → count (eqb s) (with_group f s gs) ≡ 1
-with-new f s gs h = rw (group-count f s s gs (h s), eq-eqb s s refl)
+with_new : (f : Bool) (s : ℕ) (gs : List ℕ) → Distinct gs → count (eqb s) (with_group f s gs) ≡ 1
+with_new f s gs h = rw (group_count f s s gs (h s), eq-eqb s s refl)
 
-by-distinct : (gs : List ℕ) (i : Import) → Distinct gs → Distinct (grouped_by gs i)
+by_distinct : (gs : List ℕ) (i : Import) → Distinct gs → Distinct (grouped_by gs i)
 unfolding grouped_by
-by-distinct gs (Named s n) h = with-distinct false s gs h
-by-distinct gs (Default s) h = with-distinct (eqb s 0) s gs h
-by-distinct gs FileName h = h
+by_distinct gs (Named s n) h = with_distinct false s gs h
+by_distinct gs (Default s) h = with_distinct (eqb s 0) s gs h
+by_distinct gs FileName h = h
 
-by-kept : (gs : List ℕ) (i : Import) (t : ℕ) → count (eqb t) gs ≡ 1 → count (eqb t) (grouped_by gs i) ≡ 1
+by_kept : (gs : List ℕ) (i : Import) (t : ℕ) → count (eqb t) gs ≡ 1 → count (eqb t) (grouped_by gs i) ≡ 1
 unfolding grouped_by
-by-kept gs (Named s n) t h = with-kept false t s gs h
-by-kept gs (Default s) t h = with-kept (eqb s 0) t s gs h
-by-kept gs FileName t h = h
+by_kept gs (Named s n) t h = with_kept false t s gs h
+by_kept gs (Default s) t h = with_kept (eqb s 0) t s gs h
+by_kept gs FileName t h = h
 
-by-new : (gs : List ℕ) (i : Import) → Distinct gs → Grouped (grouped_by gs i) i
+by_new : (gs : List ℕ) (i : Import) → Distinct gs → Grouped (grouped_by gs i) i
 unfolding grouped_by
-by-new gs (Named s n) h = with-new false s gs h
-by-new gs (Default s) h = with-new (eqb s 0) s gs h
-by-new gs FileName h = tt
+by_new gs (Named s n) h = with_new false s gs h
+by_new gs (Default s) h = with_new (eqb s 0) s gs h
+by_new gs FileName h = tt
 
-from-kept : (gs : List ℕ) (rs : List Record) (t : ℕ) → count (eqb t) gs ≡ 1 → count (eqb t) (groups_from gs rs) ≡ 1
+from_kept : (gs : List ℕ) (rs : List Record) (t : ℕ) → count (eqb t) gs ≡ 1 → count (eqb t) (groups_from gs rs) ≡ 1
 unfolding groups_from
-from-kept gs [] t h = h
-from-kept gs (r ∷ rs) t h = from-kept (grouped_by gs r.import) rs t (by-kept gs r.import t h)
+from_kept gs [] t h = h
+from_kept gs (r ∷ rs) t h = from_kept (grouped_by gs r.import) rs t (by_kept gs r.import t h)
 
-still-grouped : (gs : List ℕ) (rs : List Record) (i : Import) → Grouped gs i → Grouped (groups_from gs rs) i
-still-grouped gs rs (Named s n) h = from-kept gs rs s h
-still-grouped gs rs (Default s) h = from-kept gs rs s h
-still-grouped gs rs FileName h = tt
+still_grouped : (gs : List ℕ) (rs : List Record) (i : Import) → Grouped gs i → Grouped (groups_from gs rs) i
+still_grouped gs rs (Named s n) h = from_kept gs rs s h
+still_grouped gs rs (Default s) h = from_kept gs rs s h
+still_grouped gs rs FileName h = tt
 
 abbrev pub AllGrouped : List ℕ → List Record → Type 0
 AllGrouped gs [] = Unit {0}
 AllGrouped gs (r ∷ rs) = Grouped gs r.import × AllGrouped gs rs
 
-grouped-from : (gs : List ℕ) (rs : List Record) → Distinct gs → AllGrouped (groups_from gs rs) rs
+grouped_from : (gs : List ℕ) (rs : List Record) → Distinct gs → AllGrouped (groups_from gs rs) rs
 unfolding groups_from
-grouped-from gs [] h = tt
-grouped-from gs (r ∷ rs) h =
-    (still-grouped (grouped_by gs r.import) rs r.import (by-new gs r.import h), grouped-from (grouped_by gs r.import) rs (by-distinct gs r.import h))
+grouped_from gs [] h = tt
+grouped_from gs (r ∷ rs) h =
+    (still_grouped (grouped_by gs r.import) rs r.import (by_new gs r.import h), grouped_from (grouped_by gs r.import) rs (by_distinct gs r.import h))
 
-from-distinct : (gs : List ℕ) (rs : List Record) → Distinct gs → Distinct (groups_from gs rs)
+from_distinct : (gs : List ℕ) (rs : List Record) → Distinct gs → Distinct (groups_from gs rs)
 unfolding groups_from
-from-distinct gs [] h = h
-from-distinct gs (r ∷ rs) h = from-distinct (grouped_by gs r.import) rs (by-distinct gs r.import h)
+from_distinct gs [] h = h
+from_distinct gs (r ∷ rs) h = from_distinct (grouped_by gs r.import) rs (by_distinct gs r.import h)
 
-pub distinct-groups : (rs : List Record) → Distinct (groups_from [] rs)
+pub distinct_groups : (rs : List Record) → Distinct (groups_from [] rs)
 unfolding count
-distinct-groups rs = from-distinct [] rs (λ t. omega arith)
+distinct_groups rs = from_distinct [] rs (λ t. omega arith)
 
-pub all-grouped : (rs : List Record) → AllGrouped (groups_from [] rs) rs
+pub all_grouped : (rs : List Record) → AllGrouped (groups_from [] rs) rs
 unfolding count
-all-grouped rs = grouped-from [] rs (λ t. omega arith)
+all_grouped rs = grouped_from [] rs (λ t. omega arith)
 
 -- ---- counting
 
@@ -262,17 +262,17 @@ picked e t (g ∷ gs) = cond (eqb g t) (e g ∷ []) [] ++ picked e t gs
 picked_none : (e : ℕ → Entry) (t : ℕ) (gs : List ℕ) → count (eqb t) gs ≡ 0 → picked e t gs ≡ []
 unfolding picked count
 picked_none e t [] h = refl
-picked_none e t (g ∷ gs) h = rw (eqb-sym g t) (go (eqb t g) h (picked_none e t gs))
+picked_none e t (g ∷ gs) h = rw (eqb_sym g t) (go (eqb t g) h (picked_none e t gs))
   where
     go : (b : Bool) → cond b (suc (count (eqb t) gs)) (count (eqb t) gs) ≡ 0 → (count (eqb t) gs ≡ 0 → picked e t gs ≡ [])
         → cond b (e g ∷ []) [] ++ picked e t gs ≡ []
     go true h ih = absurd (omega arith)
     go false h ih = ih h
 
-picked-once : (e : ℕ → Entry) (t : ℕ) (gs : List ℕ) → count (eqb t) gs ≡ 1 → picked e t gs ≡ e t ∷ []
+picked_once : (e : ℕ → Entry) (t : ℕ) (gs : List ℕ) → count (eqb t) gs ≡ 1 → picked e t gs ≡ e t ∷ []
 unfolding picked count
-picked-once e t [] h = absurd (omega arith)
-picked-once e t (g ∷ gs) h = rw (eqb-sym g t) (go (eqb t g) refl h (picked_none e t gs) (picked-once e t gs))
+picked_once e t [] h = absurd (omega arith)
+picked_once e t (g ∷ gs) h = rw (eqb_sym g t) (go (eqb t g) refl h (picked_none e t gs) (picked_once e t gs))
   where
     go : (b : Bool) → eqb t g ≡ b → cond b (suc (count (eqb t) gs)) (count (eqb t) gs) ≡ 1 → (count (eqb t) gs ≡ 0 → picked e t gs ≡ [])
         → (count (eqb t) gs ≡ 1 → picked e t gs ≡ e t ∷ [])
@@ -285,68 +285,68 @@ alone (Named t n) b gs = picked (λ s. named s n b) t gs
 alone (Default t) b gs = picked (λ s. required s b) t gs
 alone FileName b gs = []
 
-alone-cons : (i : Import) (b g : ℕ) (gs : List ℕ) → alone i b (g ∷ gs) ≡ in_group g i b ++ alone i b gs
+alone_cons : (i : Import) (b g : ℕ) (gs : List ℕ) → alone i b (g ∷ gs) ≡ in_group g i b ++ alone i b gs
 unfolding alone in_group picked
-alone-cons (Named t n) b g gs = refl
-alone-cons (Default t) b g gs = refl
-alone-cons FileName b g gs = refl
+alone_cons (Named t n) b g gs = refl
+alone_cons (Default t) b g gs = refl
+alone_cons FileName b g gs = refl
 
-alone-nil : (i : Import) (b : ℕ) → alone i b [] ≡ []
+alone_nil : (i : Import) (b : ℕ) → alone i b [] ≡ []
 unfolding alone picked
-alone-nil (Named t n) b = refl
-alone-nil (Default t) b = refl
-alone-nil FileName b = refl
+alone_nil (Named t n) b = refl
+alone_nil (Default t) b = refl
+alone_nil FileName b = refl
 
 module _ (p : Entry → Bool) where
   -- a record more
-  groups-cons : (r : Record) (rs : List Record) (gs : List ℕ)
+  groups_cons : (r : Record) (rs : List Record) (gs : List ℕ)
       → count p (group_entries (r ∷ rs) gs) ≡ count p (alone r.import r.binding gs) + count p (group_entries rs gs)
   unfolding group_entries all_in_group
-  groups-cons r rs [] = rw (alone-nil r.import r.binding) (omega (arith, count-nil p))
-  groups-cons r rs (g ∷ gs) =
+  groups_cons r rs [] = rw (alone_nil r.import r.binding) (omega (arith, count_nil p))
+  groups_cons r rs (g ∷ gs) =
       let i = r.import in
       let b = r.binding in
-      rw (alone-cons i b g gs)
+      rw (alone_cons i b g gs)
       (omega (
         arith,
-        groups-cons r rs gs,
-        count-append p (in_group g i b ++ all_in_group g rs) (group_entries (r ∷ rs) gs),
-        count-append p (in_group g i b) (all_in_group g rs),
-        count-append p (in_group g i b) (alone i b gs),
-        count-append p (all_in_group g rs) (group_entries rs gs),
+        groups_cons r rs gs,
+        count_append p (in_group g i b ++ all_in_group g rs) (group_entries (r ∷ rs) gs),
+        count_append p (in_group g i b) (all_in_group g rs),
+        count_append p (in_group g i b) (alone i b gs),
+        count_append p (all_in_group g rs) (group_entries rs gs),
       ))
 
-  groups-nil : (gs : List ℕ) → count p (group_entries [] gs) ≡ 0
+  groups_nil : (gs : List ℕ) → count p (group_entries [] gs) ≡ 0
   unfolding group_entries all_in_group
-  groups-nil [] = count-nil p
-  groups-nil (g ∷ gs) = groups-nil gs
+  groups_nil [] = count_nil p
+  groups_nil (g ∷ gs) = groups_nil gs
 
   -- a record stands in its group or as the file name
-  alone-once : (place : ℕ) (i : Import) (b : ℕ) (gs : List ℕ) → Grouped gs i
+  alone_once : (place : ℕ) (i : Import) (b : ℕ) (gs : List ℕ) → Grouped gs i
       → count p (alone i b gs) + count p (file_entry place i b) ≡ count p (entry_of place i b ∷ [])
   unfolding alone file_entry entry_of
-  alone-once place (Named t n) b gs h = rw (picked-once (λ s. named s n b) t gs h) (omega (arith, count-nil p))
-  alone-once place (Default t) b gs h = rw (picked-once (λ s. required s b) t gs h) (omega (arith, count-nil p))
-  alone-once place FileName b gs h = omega (arith, count-nil p)
+  alone_once place (Named t n) b gs h = rw (picked_once (λ s. named s n b) t gs h) (omega (arith, count_nil p))
+  alone_once place (Default t) b gs h = rw (picked_once (λ s. required s b) t gs h) (omega (arith, count_nil p))
+  alone_once place FileName b gs h = omega (arith, count_nil p)
 
-  all-counted : (place : ℕ) (gs : List ℕ) (rs : List Record) → AllGrouped gs rs
+  all_counted : (place : ℕ) (gs : List ℕ) (rs : List Record) → AllGrouped gs rs
       → count p (group_entries rs gs) + count p (file_entries place rs) ≡ count p (entries_of place rs)
   unfolding file_entries entries_of
-  all-counted place gs [] h = omega (arith, groups-nil gs, count-nil p)
-  all-counted place gs (r ∷ rs) h =
+  all_counted place gs [] h = omega (arith, groups_nil gs, count_nil p)
+  all_counted place gs (r ∷ rs) h =
       let i = r.import in
       let b = r.binding in
       omega (
         arith,
-        groups-cons r rs gs,
-        alone-once place i b gs h.0,
-        count-append p (file_entry place i b) (file_entries place rs),
-        count-append p (entry_of place i b ∷ []) (entries_of place rs),
-        all-counted place gs rs h.1,
+        groups_cons r rs gs,
+        alone_once place i b gs h.0,
+        count_append p (file_entry place i b) (file_entries place rs),
+        count_append p (entry_of place i b ∷ []) (entries_of place rs),
+        all_counted place gs rs h.1,
       )
 
-  pub tape-count : (m : Mode) (rs : List Record) → count p (read_records (record_tape m rs)) ≡ count p (entries_of (place_in m) rs)
-  tape-count m rs =
-      rw (tape-read m rs)
-      (count-append p (group_entries rs (groups_from [] rs)) (file_entries (place_in m) rs)
-      ∙ all-counted (place_in m) (groups_from [] rs) rs (all-grouped rs))
+  pub tape_count : (m : Mode) (rs : List Record) → count p (read_records (record_tape m rs)) ≡ count p (entries_of (place_in m) rs)
+  tape_count m rs =
+      rw (tape_read m rs)
+      (count_append p (group_entries rs (groups_from [] rs)) (file_entries (place_in m) rs)
+      ∙ all_counted (place_in m) (groups_from [] rs) rs (all_grouped rs))

@@ -1,11 +1,11 @@
 -- A tree that is read off a tape has as many bytes as it took.
 --     Told                what holds of a reading's value and of the bytes that it took
---     node-size, ..       the size of a tree is what its reading took
---     root-size           so a root's tree is no larger than the tape
+--     node_size, ..       the size of a tree is what its reading took
+--     root_size           so a root's tree is no larger than the tape
 -- Assumes nothing.
-use mathlib.Core.Path.{◌≡◌, refl, sym, ap, subst, ◌∙◌}
+use mathlib.Core.Path.{◌≡◌, refl, subst}
 use mathlib.Core.Bool.{Bool, true, false, cond, ◌||◌}
-use mathlib.Core.List.{List, [], ◌∷◌}
+use mathlib.Core.List.{List, ◌∷◌}
 use Prim.Native.Nat.{ℕ, zero, suc, ◌+◌, ◌*◌, ◌≤◌}
 use native.Mathlib.Omega.{arith}
 use lib.ListN.{length, drop}
@@ -36,9 +36,9 @@ use Rattle.commands.specs.declared.root.ChildCommand.{ChildCommand}
 use Rattle.commands.specs.declared.root.ChildCommand.TheVariants as children
 use Rattle.commands.specs.Root.{heritage_command, scope_command, name_command, member_command, attribute_command, property_command, value_command, child_command}
 use Rattle.definitions.specs.Judging.{Parsed, done, stop, ◌then◌, map, from, spanned, named, worse}
-use Rattle.definitions.specs.Tree.{Name, plain, identifier, this, namespaced, Property, unnamed, prop_name, Node, element, fragment, Attributes}
-use Rattle.definitions.specs.Tree.{no_attributes, attribute, namespaced_attribute, spread, literal, Value, absent, string, expression, empty}
-use Rattle.definitions.specs.Tree.{node_value, Children, no_children, text_child, expression_child, empty_child, spread_child, node_child, Root}
+use Rattle.definitions.specs.Tree.{identifier, this, Property, unnamed, prop_name, Node, element, fragment, Attributes}
+use Rattle.definitions.specs.Tree.{attribute, namespaced_attribute, spread, literal, Value}
+use Rattle.definitions.specs.Tree.{node_value, Children, text_child, expression_child, empty_child, spread_child, node_child, Root}
 use Rattle.definitions.specs.Reading.{lettered, opened, members_by, name_by, properties_by, attributes_by, value_by, children_by, members_at}
 use Rattle.definitions.specs.Reading.{name_at, properties_at, element_at, fragment_at, attributes_at, value_at, children_at, is_function, Scoped}
 use Rattle.definitions.specs.Reading.{in_scope, unscoped, scopes_by, scopes_at, root_by, whole, read_root}
@@ -50,28 +50,28 @@ pub data Told {A : Type 0} (R : A → ℕ → Type 0) : Parsed A → Type 0 wher
   tells : {a : A} {u : ℕ} → R a u → Told R (done a u)
   faults : {f : Fault} {p : ℕ} → Told R (stop f p)
 
-pub told-then : {A B : Type 0} {R : A → ℕ → Type 0} {S : B → ℕ → Type 0} {p : Parsed A} (k : A → ℕ → Parsed B)
+pub told_then : {A B : Type 0} {R : A → ℕ → Type 0} {S : B → ℕ → Type 0} {p : Parsed A} (k : A → ℕ → Parsed B)
     → Told R p → ((a : A) (u : ℕ) → R a u → Told S (k a u)) → Told S (p then k)
 unfolding ◌then◌
-told-then k (tells {a} {u} r) h = h a u r
-told-then k faults h = faults
+told_then k (tells {a} {u} r) h = h a u r
+told_then k faults h = faults
 
-pub told-map : {A B : Type 0} {R : A → ℕ → Type 0} {S : B → ℕ → Type 0} {p : Parsed A} (g : A → B)
+pub told_map : {A B : Type 0} {R : A → ℕ → Type 0} {S : B → ℕ → Type 0} {p : Parsed A} (g : A → B)
     → Told R p → ((a : A) (u : ℕ) → R a u → S (g a) u) → Told S (map g p)
 unfolding map
-told-map g t h = told-then (λ a u. done (g a) u) t (λ a u r. tells (h a u r))
+told_map g t h = told_then (λ a u. done (g a) u) t (λ a u r. tells (h a u r))
 
-pub told-from : {A : Type 0} {R S : A → ℕ → Type 0} {p : Parsed A} (u : ℕ) → Told R p → ((a : A) (v : ℕ) → R a v → S a (u + v)) → Told S (from u p)
+pub told_from : {A : Type 0} {R S : A → ℕ → Type 0} {p : Parsed A} (u : ℕ) → Told R p → ((a : A) (v : ℕ) → R a v → S a (u + v)) → Told S (from u p)
 unfolding from
-told-from u (tells {a} {u = v} r) h = tells (h a v r)
-told-from u faults h = faults
+told_from u (tells {a} {u = v} r) h = tells (h a v r)
+told_from u faults h = faults
 
-pub told-spanned : {A : Type 0} {R : A → ℕ → Type 0} (b : Bounds) {p : Parsed A} → Told R p → Told R (spanned b p)
+pub told_spanned : {A : Type 0} {R : A → ℕ → Type 0} (b : Bounds) {p : Parsed A} → Told R p → Told R (spanned b p)
 unfolding spanned
-told-spanned Outside t = faults
-told-spanned Cuts t = faults
-told-spanned Empty t = t
-told-spanned Good t = t
+told_spanned Outside t = faults
+told_spanned Cuts t = faults
+told_spanned Empty t = t
+told_spanned Good t = t
 
 pub told_named : {A : Type 0} {R : A → ℕ → Type 0} (b : Bounds) {p : Parsed A} → Told R p → Told R (named b p)
 unfolding named
@@ -80,27 +80,27 @@ told_named Cuts t = faults
 told_named Empty t = faults
 told_named Good t = t
 
-pub told-or : {A : Type 0} {R : A → ℕ → Type 0} (b : Bool) (f : Fault) {p : Parsed A} → Told R p → Told R (cond b (stop f 0) p)
-told-or true f t = faults
-told-or false f t = t
+pub told_or : {A : Type 0} {R : A → ℕ → Type 0} (b : Bool) (f : Fault) {p : Parsed A} → Told R p → Told R (cond b (stop f 0) p)
+told_or true f t = faults
+told_or false f t = t
 
-pub told-lettered : {A : Type 0} {R : A → ℕ → Type 0} (text : List ℕ) (s : Span) {p : Parsed A} → Told R p → Told R (lettered text s p)
+pub told_lettered : {A : Type 0} {R : A → ℕ → Type 0} (text : List ℕ) (s : Span) {p : Parsed A} → Told R p → Told R (lettered text s p)
 unfolding lettered
-told-lettered text s t = told-spanned (bounds_of text s) (told-or (has_reference (part_of text s)) fault.Reference t)
+told_lettered text s t = told_spanned (bounds_of text s) (told_or (has_reference (part_of text s)) fault.Reference t)
 
-pub told-opened : {A : Type 0} {R S : A → ℕ → Type 0} (d : ℕ) (p : Place) {body : Parsed A}
+pub told_opened : {A : Type 0} {R S : A → ℕ → Type 0} (d : ℕ) (p : Place) {body : Parsed A}
     → Told R body → ((a : A) (u : ℕ) → R a u → S a (9 + u)) → Told S (opened d p body)
 unfolding opened
-told-opened d p t h =
-    told-or (leb 64 d) fault.Depth (told-or (eqb p.line 4294967295 || eqb p.column 4294967295) fault.Position (told-from 9 t h))
+told_opened d p t h =
+    told_or (leb 64 d) fault.Depth (told_or (eqb p.line 4294967295 || eqb p.column 4294967295) fault.Position (told_from 9 t h))
 
 -- what is told of a reading that gives a value
-pub told-done : {A : Type 0} {R : A → ℕ → Type 0} {p : Parsed A} {a : A} {u : ℕ} → Told R p → p ≡ done a u → R a u
-told-done {R = R} {a = b} {u = v} (tells {a} {u} r) e =
+pub told_done : {A : Type 0} {R : A → ℕ → Type 0} {p : Parsed A} {a : A} {u : ℕ} → Told R p → p ≡ done a u → R a u
+told_done {R = R} {a = b} {u = v} (tells {a} {u} r) e =
     let x : a ≡ b = cc in
     let y : u ≡ v = cc in
     subst (λ (n : ℕ). R b n) y (subst (λ (z : _). R z u) x r)
-told-done faults e = let z : ◌≡◌ {A = ℕ} 0 1 = cc in absurd (omega arith)
+told_done faults e = let z : ◌≡◌ {A = ℕ} 0 1 = cc in absurd (omega arith)
 
 -- ---- sizes
 
@@ -112,178 +112,178 @@ abbrev Behind : {A : Type 0} → (A → ℕ) → ℕ → Parsed A → Type 0
 Behind size u p = Told (λ a v. size a + u ≡ v) p
 
 behind : {A : Type 0} (size : A → ℕ) {p : Parsed A} (u : ℕ) → Sized size p → Behind size u (from u p)
-behind size u t = told-from u t (λ a v e. omega arith)
+behind size u t = told_from u t (λ a v e. omega arith)
 
 -- ---- by the command in front
 
 abbrev size_members : List Span → ℕ
 size_members ms = 5 * length ms
 
-members-by : (text t : List ℕ) (c : MemberCommand) (next : ℕ → Parsed (List Span)) → ((u : ℕ) → Behind size_members u (next u)) → Sized size_members (members_by text t c next)
+members_by_command : (text t : List ℕ) (c : MemberCommand) (next : ℕ → Parsed (List Span)) → ((u : ℕ) → Behind size_members u (next u)) → Sized size_members (members_by text t c next)
 unfolding members_by
-members-by text t members.Other next h = tells refl
-members-by text t members.Cut next h = faults
-members-by text t (members.Member s) next h = told_named (bounds_of text s) (told-map (s ∷◌) (h 5) (λ a u e. omega arith))
+members_by_command text t members.Other next h = tells refl
+members_by_command text t members.Cut next h = faults
+members_by_command text t (members.Member s) next h = told_named (bounds_of text s) (told_map (s ∷◌) (h 5) (λ a u e. omega arith))
 
-name-by : (text t : List ℕ) (c : NameCommand) (next : ℕ → Parsed (List Span)) → ((u : ℕ) → Behind size_members u (next u)) → Sized size_name (name_by text t c next)
+name_by_command : (text t : List ℕ) (c : NameCommand) (next : ℕ → Parsed (List Span)) → ((u : ℕ) → Behind size_members u (next u)) → Sized size_name (name_by text t c next)
 unfolding name_by size_name
-name-by text t names.Wrong next h = faults
-name-by text t names.Cut next h = faults
-name-by text t (names.Plain s) next h = told_named (bounds_of text s) (tells refl)
-name-by text t (names.Identifier s) next h = told_named (bounds_of text s) (told-map (identifier s) (h 5) (λ a u e. omega arith))
-name-by text t names.This next h = told-map this (h 1) (λ a u e. omega arith)
-name-by text t (names.Namespaced s r) next h = told_named (worse (bounds_of text s) (bounds_of text r)) (tells refl)
+name_by_command text t names.Wrong next h = faults
+name_by_command text t names.Cut next h = faults
+name_by_command text t (names.Plain s) next h = told_named (bounds_of text s) (tells refl)
+name_by_command text t (names.Identifier s) next h = told_named (bounds_of text s) (told_map (identifier s) (h 5) (λ a u e. omega arith))
+name_by_command text t names.This next h = told_map this (h 1) (λ a u e. omega arith)
+name_by_command text t (names.Namespaced s r) next h = told_named (worse (bounds_of text s) (bounds_of text r)) (tells refl)
 
-properties-by : (text t : List ℕ) (c : PropertyCommand) (next : ℕ → Parsed (List Property)) → ((u : ℕ) → Behind size_properties u (next u))
+properties_by_command : (text t : List ℕ) (c : PropertyCommand) (next : ℕ → Parsed (List Property)) → ((u : ℕ) → Behind size_properties u (next u))
     → Sized size_properties (properties_by text t c next)
 unfolding properties_by size_properties
-properties-by text t properties.Wrong next h = faults
-properties-by text t properties.Cut next h = faults
-properties-by text t properties.End next h = tells refl
-properties-by text t (properties.Property e) next h = told-map (unnamed e ∷◌) (h 3) (λ a u e. omega arith)
-properties-by text t (properties.Named e s) next h = told-spanned (bounds_of text s) (told-map (prop_name e s ∷◌) (h 7) (λ a u e. omega arith))
+properties_by_command text t properties.Wrong next h = faults
+properties_by_command text t properties.Cut next h = faults
+properties_by_command text t properties.End next h = tells refl
+properties_by_command text t (properties.Property e) next h = told_map (unnamed e ∷◌) (h 3) (λ a u e. omega arith)
+properties_by_command text t (properties.Named e s) next h = told_spanned (bounds_of text s) (told_map (prop_name e s ∷◌) (h 7) (λ a u e. omega arith))
 
-attributes-by : (text t : List ℕ) (c : AttributeCommand) (value : ℕ → Parsed Value) (props : ℕ → Parsed (List Property)) (next : ℕ → Parsed Attributes)
+attributes_by_command : (text t : List ℕ) (c : AttributeCommand) (value : ℕ → Parsed Value) (props : ℕ → Parsed (List Property)) (next : ℕ → Parsed Attributes)
     → ((u : ℕ) → Behind size_value u (value u)) → ((u : ℕ) → Behind size_properties u (props u)) → ((u : ℕ) → Behind size_attributes u (next u))
     → Sized size_attributes (attributes_by text t c value props next)
 unfolding attributes_by size_attributes
-attributes-by text t attributes.Wrong value props next v p h = faults
-attributes-by text t attributes.Cut value props next v p h = faults
-attributes-by text t attributes.End value props next v p h = tells refl
-attributes-by text t (attributes.Plain s) value props next v p h =
-    told_named (bounds_of text s) (told-then _ (v 5) (λ a u e. told-map (attribute s a) (h u) (λ b w d. omega arith)))
-attributes-by text t (attributes.Namespaced s r) value props next v p h =
-    told_named (worse (bounds_of text s) (bounds_of text r)) (told-then _ (v 9) (λ a u e. told-map (namespaced_attribute s r a) (h u) (λ b w d. omega arith)))
-attributes-by text t (attributes.Spread e) value props next v p h = told-map (spread e) (h 3) (λ a u d. omega arith)
-attributes-by text t (attributes.Literal e) value props next v p h = told-then _ (p 3) (λ a u d. told-map (literal e a) (h u) (λ b w c. omega arith))
+attributes_by_command text t attributes.Wrong value props next v p h = faults
+attributes_by_command text t attributes.Cut value props next v p h = faults
+attributes_by_command text t attributes.End value props next v p h = tells refl
+attributes_by_command text t (attributes.Plain s) value props next v p h =
+    told_named (bounds_of text s) (told_then _ (v 5) (λ a u e. told_map (attribute s a) (h u) (λ b w d. omega arith)))
+attributes_by_command text t (attributes.Namespaced s r) value props next v p h =
+    told_named (worse (bounds_of text s) (bounds_of text r)) (told_then _ (v 9) (λ a u e. told_map (namespaced_attribute s r a) (h u) (λ b w d. omega arith)))
+attributes_by_command text t (attributes.Spread e) value props next v p h = told_map (spread e) (h 3) (λ a u d. omega arith)
+attributes_by_command text t (attributes.Literal e) value props next v p h = told_then _ (p 3) (λ a u d. told_map (literal e a) (h u) (λ b w c. omega arith))
 
 -- a node behind the nine bytes of its command
 abbrev NodeSized : Parsed Node → Type 0
 NodeSized p = Told (λ n u. size_node n ≡ 9 + u) p
 
-value-by : (text : List ℕ) (d : ℕ) (t : List ℕ) (c : ValueCommand) (full bare : Place → Parsed Node)
+value_by_command : (text : List ℕ) (d : ℕ) (t : List ℕ) (c : ValueCommand) (full bare : Place → Parsed Node)
     → ((p : Place) → NodeSized (full p)) → ((p : Place) → NodeSized (bare p)) → Sized size_value (value_by text d t c full bare)
 unfolding value_by size_value
-value-by text d t values.Wrong full bare h k = faults
-value-by text d t values.Cut full bare h k = faults
-value-by text d t values.Absent full bare h k = tells refl
-value-by text d t (values.Text s) full bare h k = told-lettered text s (tells refl)
-value-by text d t (values.Expression e) full bare h k = tells refl
-value-by text d t values.Empty full bare h k = tells refl
-value-by text d t (values.Element p) full bare h k = told-map node_value (told-opened {S = λ n u. size_node n ≡ u} d p (h p) (λ n u e. e)) (λ n u e. e)
-value-by text d t (values.Fragment p) full bare h k = told-map node_value (told-opened {S = λ n u. size_node n ≡ u} d p (k p) (λ n u e. e)) (λ n u e. e)
+value_by_command text d t values.Wrong full bare h k = faults
+value_by_command text d t values.Cut full bare h k = faults
+value_by_command text d t values.Absent full bare h k = tells refl
+value_by_command text d t (values.Text s) full bare h k = told_lettered text s (tells refl)
+value_by_command text d t (values.Expression e) full bare h k = tells refl
+value_by_command text d t values.Empty full bare h k = tells refl
+value_by_command text d t (values.Element p) full bare h k = told_map node_value (told_opened {S = λ n u. size_node n ≡ u} d p (h p) (λ n u e. e)) (λ n u e. e)
+value_by_command text d t (values.Fragment p) full bare h k = told_map node_value (told_opened {S = λ n u. size_node n ≡ u} d p (k p) (λ n u e. e)) (λ n u e. e)
 
-children-by : (text : List ℕ) (d : ℕ) (t : List ℕ) (c : ChildCommand) (full bare : Place → Parsed Node) (next : ℕ → Parsed Children)
+children_by_command : (text : List ℕ) (d : ℕ) (t : List ℕ) (c : ChildCommand) (full bare : Place → Parsed Node) (next : ℕ → Parsed Children)
     → ((p : Place) → NodeSized (full p)) → ((p : Place) → NodeSized (bare p)) → ((u : ℕ) → Behind size_children u (next u))
     → Sized size_children (children_by text d t c full bare next)
 unfolding children_by size_children
-children-by text d t children.Wrong full bare next h k n = faults
-children-by text d t children.Cut full bare next h k n = faults
-children-by text d t children.End full bare next h k n = tells refl
-children-by text d t (children.Text s) full bare next h k n = told-lettered text s (told-map (text_child s) (n 5) (λ a u e. omega arith))
-children-by text d t (children.Expression e) full bare next h k n = told-map (expression_child e) (n 3) (λ a u e. omega arith)
-children-by text d t children.Empty full bare next h k n = told-map empty_child (n 1) (λ a u e. omega arith)
-children-by text d t (children.Spread e) full bare next h k n = told-map (spread_child e) (n 3) (λ a u e. omega arith)
-children-by text d t (children.Element p) full bare next h k n =
-    told-then _ (told-opened {S = λ x u. size_node x ≡ u} d p (h p) (λ x u e. e)) (λ a u e. told-map (node_child a) (n u) (λ b w c. omega arith))
-children-by text d t (children.Fragment p) full bare next h k n =
-    told-then _ (told-opened {S = λ x u. size_node x ≡ u} d p (k p) (λ x u e. e)) (λ a u e. told-map (node_child a) (n u) (λ b w c. omega arith))
+children_by_command text d t children.Wrong full bare next h k n = faults
+children_by_command text d t children.Cut full bare next h k n = faults
+children_by_command text d t children.End full bare next h k n = tells refl
+children_by_command text d t (children.Text s) full bare next h k n = told_lettered text s (told_map (text_child s) (n 5) (λ a u e. omega arith))
+children_by_command text d t (children.Expression e) full bare next h k n = told_map (expression_child e) (n 3) (λ a u e. omega arith)
+children_by_command text d t children.Empty full bare next h k n = told_map empty_child (n 1) (λ a u e. omega arith)
+children_by_command text d t (children.Spread e) full bare next h k n = told_map (spread_child e) (n 3) (λ a u e. omega arith)
+children_by_command text d t (children.Element p) full bare next h k n =
+    told_then _ (told_opened {S = λ x u. size_node x ≡ u} d p (h p) (λ x u e. e)) (λ a u e. told_map (node_child a) (n u) (λ b w c. omega arith))
+children_by_command text d t (children.Fragment p) full bare next h k n =
+    told_then _ (told_opened {S = λ x u. size_node x ≡ u} d p (k p) (λ x u e. e)) (λ a u e. told_map (node_child a) (n u) (λ b w c. omega arith))
 
 -- ---- each reader
 
-members-size : (f : ℕ) (text t : List ℕ) → Sized size_members (members_at f text t)
+members_size : (f : ℕ) (text t : List ℕ) → Sized size_members (members_at f text t)
 unfolding members_at
-members-size zero text t = faults
-members-size (suc f) text t = members-by text t (member_command t) _ (λ u. behind size_members u (members-size f text (drop u t)))
+members_size zero text t = faults
+members_size (suc f) text t = members_by_command text t (member_command t) _ (λ u. behind size_members u (members_size f text (drop u t)))
 
-name-size : (f : ℕ) (text t : List ℕ) → Sized size_name (name_at f text t)
+name_size : (f : ℕ) (text t : List ℕ) → Sized size_name (name_at f text t)
 unfolding name_at
-name-size f text t = name-by text t (name_command t) _ (λ u. behind size_members u (members-size f text (drop u t)))
+name_size f text t = name_by_command text t (name_command t) _ (λ u. behind size_members u (members_size f text (drop u t)))
 
-properties-size : (f : ℕ) (text t : List ℕ) → Sized size_properties (properties_at f text t)
+properties_size : (f : ℕ) (text t : List ℕ) → Sized size_properties (properties_at f text t)
 unfolding properties_at
-properties-size zero text t = faults
-properties-size (suc f) text t = properties-by text t (property_command t) _ (λ u. behind size_properties u (properties-size f text (drop u t)))
+properties_size zero text t = faults
+properties_size (suc f) text t = properties_by_command text t (property_command t) _ (λ u. behind size_properties u (properties_size f text (drop u t)))
 
 mutual
   unfolding element_at fragment_at attributes_at value_at children_at size_node
 
-  pub element-size : (f : ℕ) (text : List ℕ) (d : ℕ) (p : Place) (t : List ℕ) → NodeSized (element_at f text d p t)
-  element-size zero text d p t = faults
-  element-size (suc f) text d p t =
-      told-then _ (name-size f text t) (λ n u e.
-      told-then _ (behind size_attributes u (attributes-size f text (suc d) (drop u t))) (λ a v g.
-      told-map (element p n a) (behind size_children v (children-size f text (suc d) (drop v t))) (λ k w i. omega arith)))
+  pub element_size : (f : ℕ) (text : List ℕ) (d : ℕ) (p : Place) (t : List ℕ) → NodeSized (element_at f text d p t)
+  element_size zero text d p t = faults
+  element_size (suc f) text d p t =
+      told_then _ (name_size f text t) (λ n u e.
+      told_then _ (behind size_attributes u (attributes_size f text (suc d) (drop u t))) (λ a v g.
+      told_map (element p n a) (behind size_children v (children_size f text (suc d) (drop v t))) (λ k w i. omega arith)))
 
-  pub fragment-size : (f : ℕ) (text : List ℕ) (d : ℕ) (p : Place) (t : List ℕ) → NodeSized (fragment_at f text d p t)
-  fragment-size zero text d p t = faults
-  fragment-size (suc f) text d p t = told-map (fragment p) (children-size f text (suc d) t) (λ k w i. omega arith)
+  pub fragment_size : (f : ℕ) (text : List ℕ) (d : ℕ) (p : Place) (t : List ℕ) → NodeSized (fragment_at f text d p t)
+  fragment_size zero text d p t = faults
+  fragment_size (suc f) text d p t = told_map (fragment p) (children_size f text (suc d) t) (λ k w i. omega arith)
 
-  pub attributes-size : (f : ℕ) (text : List ℕ) (d : ℕ) (t : List ℕ) → Sized size_attributes (attributes_at f text d t)
-  attributes-size zero text d t = faults
-  attributes-size (suc f) text d t =
-      attributes-by text t (attribute_command t) _ _ _
-      (λ u. behind size_value u (value-size f text d (drop u t)))
-      (λ u. behind size_properties u (properties-size f text (drop u t)))
-      (λ u. behind size_attributes u (attributes-size f text d (drop u t)))
+  pub attributes_size : (f : ℕ) (text : List ℕ) (d : ℕ) (t : List ℕ) → Sized size_attributes (attributes_at f text d t)
+  attributes_size zero text d t = faults
+  attributes_size (suc f) text d t =
+      attributes_by_command text t (attribute_command t) _ _ _
+      (λ u. behind size_value u (value_size f text d (drop u t)))
+      (λ u. behind size_properties u (properties_size f text (drop u t)))
+      (λ u. behind size_attributes u (attributes_size f text d (drop u t)))
 
-  pub value-size : (f : ℕ) (text : List ℕ) (d : ℕ) (t : List ℕ) → Sized size_value (value_at f text d t)
-  value-size zero text d t = faults
-  value-size (suc f) text d t =
-      value-by text d t (value_command t) _ _ (λ p. element-size f text d p (drop 9 t)) (λ p. fragment-size f text d p (drop 9 t))
+  pub value_size : (f : ℕ) (text : List ℕ) (d : ℕ) (t : List ℕ) → Sized size_value (value_at f text d t)
+  value_size zero text d t = faults
+  value_size (suc f) text d t =
+      value_by_command text d t (value_command t) _ _ (λ p. element_size f text d p (drop 9 t)) (λ p. fragment_size f text d p (drop 9 t))
 
-  pub children-size : (f : ℕ) (text : List ℕ) (d : ℕ) (t : List ℕ) → Sized size_children (children_at f text d t)
-  children-size zero text d t = faults
-  children-size (suc f) text d t =
-      children-by text d t (child_command t) _ _ _
-      (λ p. element-size f text d p (drop 9 t))
-      (λ p. fragment-size f text d p (drop 9 t))
-      (λ u. behind size_children u (children-size f text d (drop u t)))
+  pub children_size : (f : ℕ) (text : List ℕ) (d : ℕ) (t : List ℕ) → Sized size_children (children_at f text d t)
+  children_size zero text d t = faults
+  children_size (suc f) text d t =
+      children_by_command text d t (child_command t) _ _ _
+      (λ p. element_size f text d p (drop 9 t))
+      (λ p. fragment_size f text d p (drop 9 t))
+      (λ u. behind size_children u (children_size f text d (drop u t)))
 
 -- ---- the root
 
 abbrev ScopedSized : Parsed Scoped → Type 0
 ScopedSized p = Told (λ s u. size_node s.node ≤ u) p
 
-scopes-by : (text t : List ℕ) (c : ScopeCommand) (full bare : Place → Parsed Node) (next : ℕ → Parsed Scoped)
+scopes_by_command : (text t : List ℕ) (c : ScopeCommand) (full bare : Place → Parsed Node) (next : ℕ → Parsed Scoped)
     → ((p : Place) → NodeSized (full p)) → ((p : Place) → NodeSized (bare p)) → ((k : ℕ) → ScopedSized (next k)) → ScopedSized (scopes_by text t c full bare next)
 unfolding scopes_by
-scopes-by text t scopes.Wrong full bare next h k n = faults
-scopes-by text t scopes.Cut full bare next h k n = faults
-scopes-by text t scopes.Bad full bare next h k n = faults
-scopes-by text t (scopes.Scope x) full bare next h k n = told-map (in_scope x) (n x) (λ s u e. e)
-scopes-by text t (scopes.Element p) full bare next h k n = told-map unscoped (told-opened {S = λ x u. size_node x ≡ u} 0 p (h p) (λ x u e. e)) (λ x u e. omega arith)
-scopes-by text t (scopes.Fragment p) full bare next h k n = told-map unscoped (told-opened {S = λ x u. size_node x ≡ u} 0 p (k p) (λ x u e. e)) (λ x u e. omega arith)
+scopes_by_command text t scopes.Wrong full bare next h k n = faults
+scopes_by_command text t scopes.Cut full bare next h k n = faults
+scopes_by_command text t scopes.Bad full bare next h k n = faults
+scopes_by_command text t (scopes.Scope x) full bare next h k n = told_map (in_scope x) (n x) (λ s u e. e)
+scopes_by_command text t (scopes.Element p) full bare next h k n = told_map unscoped (told_opened {S = λ x u. size_node x ≡ u} 0 p (h p) (λ x u e. e)) (λ x u e. omega arith)
+scopes_by_command text t (scopes.Fragment p) full bare next h k n = told_map unscoped (told_opened {S = λ x u. size_node x ≡ u} 0 p (k p) (λ x u e. e)) (λ x u e. omega arith)
 
-scopes-size : (f : ℕ) (text : List ℕ) (known : Bool) (t : List ℕ) → ScopedSized (scopes_at f text known t)
+scopes_size : (f : ℕ) (text : List ℕ) (known : Bool) (t : List ℕ) → ScopedSized (scopes_at f text known t)
 unfolding scopes_at
-scopes-size zero text known t = faults
-scopes-size (suc f) text known t =
-    scopes-by text t (scope_command known t) _ _ _
-    (λ p. element-size f text 0 p (drop 9 t))
-    (λ p. fragment-size f text 0 p (drop 9 t))
-    (λ k. told-from 2 (scopes-size f text (known || is_function k) (drop 2 t)) (λ s u e. omega arith))
+scopes_size zero text known t = faults
+scopes_size (suc f) text known t =
+    scopes_by_command text t (scope_command known t) _ _ _
+    (λ p. element_size f text 0 p (drop 9 t))
+    (λ p. fragment_size f text 0 p (drop 9 t))
+    (λ k. told_from 2 (scopes_size f text (known || is_function k) (drop 2 t)) (λ s u e. omega arith))
 
 abbrev RootSized : Parsed Root → Type 0
 RootSized p = Told (λ r u. size_node r.node ≤ u) p
 
-root-by : (t : List ℕ) (c : HeritageCommand) (rest : Parsed Scoped) → ScopedSized rest → RootSized (root_by t c rest)
+root_by_command : (t : List ℕ) (c : HeritageCommand) (rest : Parsed Scoped) → ScopedSized rest → RootSized (root_by t c rest)
 unfolding root_by
-root-by t heritages.Wrong rest h = faults
-root-by t heritages.Cut rest h = faults
-root-by t heritages.Bad rest h = faults
-root-by t (heritages.Heritage x) rest h = told-map _ h (λ s u e. e)
+root_by_command t heritages.Wrong rest h = faults
+root_by_command t heritages.Cut rest h = faults
+root_by_command t heritages.Bad rest h = faults
+root_by_command t (heritages.Heritage x) rest h = told_map _ h (λ s u e. e)
 
 root_told : (text t : List ℕ) → RootSized (read_root text t)
 unfolding read_root whole
 root_told text t =
-    told-then _
-    (root-by t (heritage_command t) _ (told-from 2 (scopes-size (suc (length t)) text false (drop 2 t)) (λ s u e. omega arith)))
-    (λ r u e. told-whole (ltb u (length t)) r u e)
+    told_then _
+    (root_by_command t (heritage_command t) _ (told_from 2 (scopes_size (suc (length t)) text false (drop 2 t)) (λ s u e. omega arith)))
+    (λ r u e. told_whole (ltb u (length t)) r u e)
   where
-    told-whole : (b : Bool) (r : Root) (u : ℕ) → size_node r.node ≤ u → RootSized (cond b (stop fault.Grammar u) (done r u))
-    told-whole true r u e = faults
-    told-whole false r u e = tells e
+    told_whole : (b : Bool) (r : Root) (u : ℕ) → size_node r.node ≤ u → RootSized (cond b (stop fault.Grammar u) (done r u))
+    told_whole true r u e = faults
+    told_whole false r u e = tells e
 
-pub root-size : (text t : List ℕ) (r : Root) (u : ℕ) → read_root text t ≡ done r u → size_node r.node ≤ u
-root-size text t r u e = told-done (root_told text t) e
+pub root_size : (text t : List ℕ) (r : Root) (u : ℕ) → read_root text t ≡ done r u → size_node r.node ≤ u
+root_size text t r u e = told_done (root_told text t) e

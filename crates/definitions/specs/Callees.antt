@@ -1,12 +1,12 @@
 -- Demand 3: "the callee of each element lowered on the way is createElement exactly if a plain key attribute follows a spread, otherwise jsxDEV in
 -- development, jsxs if two or more children survive, else jsx". What a tree says of this, by definitions that owe nothing to the lowering's, and how callees are
 -- read off a call tape.
-use Rattle.std.specs.Prelude.{ℕ, suc, ◌+◌, Bool, true, false, cond, not, ◌&&◌, ◌||◌, List, [], ◌∷◌, ◌++◌, eqb, leb}
+use Rattle.std.specs.Prelude.{ℕ, suc, Bool, true, false, cond, not, ◌&&◌, ◌||◌, List, [], ◌∷◌, ◌++◌, eqb, leb}
 use Rattle.text.specs.declared.spans.Span.{Span}
 use Rattle.text.specs.Bytes.{ascii, same}
 use Rattle.text.specs.Chars.{is_white_space, is_line_terminator}
 use Rattle.text.specs.Spans.{part_of}
-use Rattle.definitions.specs.Tree.{Property, Node, element, fragment, Attributes, no_attributes, attribute, namespaced_attribute, spread, literal, Value, absent, string, expression, empty, node_value, Children, no_children, text_child, expression_child, empty_child, spread_child, node_child, Root}
+use Rattle.definitions.specs.Tree.{Node, element, fragment, Attributes, no_attributes, attribute, namespaced_attribute, spread, literal, Value, absent, string, expression, empty, node_value, Children, no_children, text_child, expression_child, empty_child, spread_child, node_child, Root}
 use Rattle.definitions.specs.JsxText.{Placed, chars_from}
 use Rattle.definitions.specs.Calls.{Bare, WithByte, Command, bare, byte, over, span, binding, source}
 use Rattle.definitions.specs.Calls as call

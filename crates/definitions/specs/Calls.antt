@@ -1,5 +1,5 @@
 -- docs/TAPES.md, "Call tape" and "Notice tape": the commands of the call tape and the notices, their bytes, and how a call tape is read.
-use Rattle.std.specs.Prelude.{ℕ, zero, suc, Bool, cond, List, [], ◌∷◌, ◌++◌, length, drop, get_or, eqb, ltb}
+use Rattle.std.specs.Prelude.{ℕ, zero, suc, cond, List, [], ◌∷◌, ◌++◌, length, drop, get_or, eqb, ltb}
 use Rattle.text.specs.declared.spans.Span.{Span}
 use Rattle.commands.specs.declared.root.Place.{Place}
 use Rattle.tape.specs.Numbers.{u16_at, span_at, u16_bytes, u32_bytes, span_bytes}

@@ -2,11 +2,9 @@
 use Rattle.std.specs.Prelude.{ℕ, suc, ◌≤◌, ◌<◌, ◌≡◌, Bool, true, false, cond, ◌&&◌, List, [], ◌∷◌, ◌++◌, map, length, eqb}
 use Rattle.tape.specs.declared.refusal.Refusal.{Refusal}
 use Rattle.definitions.specs.declared.options.Settings.{Settings}
-use Rattle.definitions.specs.declared.state.Answer.{Answer}
 use Rattle.definitions.specs.declared.state.Answer.TheVariants as answer
-use Rattle.definitions.specs.declared.state.Written.{Written}
 use Rattle.definitions.specs.declared.state.Written.TheVariants as written
-use Rattle.definitions.specs.Judging.{Judged, accepted}
+use Rattle.definitions.specs.Judging.{accepted}
 use Rattle.definitions.specs.Opening.{opening_bytes, judge_opening}
 use Rattle.definitions.specs.Calls.{Command, bare, byte, over, span, binding, source, call_bytes, read_calls}
 use Rattle.definitions.specs.Lowering.{is_classic}
@@ -78,19 +76,19 @@ says (file b p) (file c q) = eqb b c && eqb p q
 
 pub record Kept (text : List ℕ) (s : Settings) (calls notices : List ℕ) (roots : List (List ℕ)) : Type 0 where
   -- the calls so far are what the rules give from the text, the settings and the accepted roots alone; the notices so far are the opening's, then the roots'
-  pub calls-so-far :
+  pub calls_determined :
       calls_so_far (series text (opening text s calls notices) roots)
       ≡ calls_of_all text s [] (trees_of text (accepted_in text (opening text s calls notices) roots))
-  pub notices-so-far :
+  pub notices_determined :
       notices_so_far (series text (opening text s calls notices) roots)
       ≡ opening_bytes text s ++ notices_of_all text s [] (trees_of text (accepted_in text (opening text s calls notices) roots))
   -- the readers of both tapes reach their ends: the calls so far are the bytes of the commands read, and the record tape those of the records read
-  pub calls-read :
+  pub calls_read :
       call_bytes (read_calls (calls_so_far (series text (opening text s calls notices) roots))) ≡ calls_so_far (series text (opening text s calls notices) roots)
-  pub records-read :
+  pub records_read :
       entry_bytes outside (records_so_far (series text (opening text s calls notices) roots)) ≡ records_tape (series text (opening text s calls notices) roots)
   -- the records are written wherever there is space for them
-  pub written-records :
+  pub written_records :
       (target : List ℕ)
       → length (records_tape (series text (opening text s calls notices) roots)) ≤ length target
       → (records_answer (judge_records text (series text (opening text s calls notices) roots).state (length target))
@@ -98,28 +96,28 @@ pub record Kept (text : List ℕ) (s : Settings) (calls notices : List ℕ) (roo
       × (records_target target (judge_records text (series text (opening text s calls notices) roots).state (length target))
       ≡ laid 0 (records_tape (series text (opening text s calls notices) roots)) target)
   -- each binding that the calls so far mention has exactly one record
-  pub one-record :
+  pub one_record :
       (b : ℕ)
       → 0 < count (eqb b) (mentioned (series text (opening text s calls notices) roots))
       → count (is_of b) (records_so_far (series text (opening text s calls notices) roots)) ≡ 1
   -- each record is mentioned
-  pub each-mentioned :
+  pub each_mentioned :
       (b : ℕ)
       → 0 < count (is_of b) (records_so_far (series text (opening text s calls notices) roots))
       → 0 < count (eqb b) (mentioned (series text (opening text s calls notices) roots))
   -- no two records share source and name
-  pub none-shared : (e : Entry) → count (shares e) (records_so_far (series text (opening text s calls notices) roots)) ≤ 1
+  pub none_shared : (e : Entry) → count (shares e) (records_so_far (series text (opening text s calls notices) roots)) ≤ 1
   -- whatever roots follow, the calls so far begin the calls then, and the notices so far the notices then
-  pub calls-begin :
+  pub calls_begin :
       (more : List (List ℕ))
       → (rest : List ℕ)
       × (calls_so_far (series text (opening text s calls notices) (roots ++ more)) ≡ calls_so_far (series text (opening text s calls notices) roots) ++ rest)
-  pub notices-begin :
+  pub notices_begin :
       (more : List (List ℕ))
       → (rest : List ℕ)
       × (notices_so_far (series text (opening text s calls notices) (roots ++ more)) ≡ notices_so_far (series text (opening text s calls notices) roots) ++ rest)
   -- and no record is lost or says anything else
-  pub records-stay :
+  pub records_stay :
       (more : List (List ℕ)) (e : Entry)
       → count (says e) (records_so_far (series text (opening text s calls notices) roots))
       ≤ count (says e) (records_so_far (series text (opening text s calls notices) (roots ++ more)))
@@ -131,7 +129,7 @@ pub record Kept (text : List ℕ) (s : Settings) (calls notices : List ℕ) (roo
       (read_calls (calls_so_far (series text (opening text s calls notices) roots)))
       ≡ map callee_named (callees_of_roots text s.options.flags.development (trees_of text (accepted_in text (opening text s calls notices) roots)))
   -- a root that is refused then changes nothing
-  pub refused-leaves :
+  pub refused_leaves :
       (tape : List ℕ) (r : Refusal)
       → (outcome_in text (series text (opening text s calls notices) roots) tape).stepped.answer ≡ answer.Refused r
       → next text (series text (opening text s calls notices) roots) tape ≡ series text (opening text s calls notices) roots

@@ -6,8 +6,7 @@ use Rattle.text.specs.declared.spans.Span.{Span}
 use Rattle.text.specs.Bytes.{ascii, same, find_from}
 use Rattle.text.specs.Spans.{part_of}
 use Rattle.definitions.specs.declared.options.Flags.{Flags}
-use Rattle.definitions.specs.declared.options.Optional.{Optional}
-use Rattle.definitions.specs.declared.options.Optional.TheVariants.{Absent, Present}
+use Rattle.definitions.specs.declared.options.Optional.TheVariants.{Present}
 use Rattle.definitions.specs.declared.options.Options.{Options}
 
 -- ---- the bytes that the search tells apart

@@ -1,15 +1,12 @@
 -- docs/TAPES.md, "Refusals": what each entry answers, the state that it returns and what every target holds after, refused or not.
-use Rattle.std.specs.Prelude.{ℕ, zero, suc, ◌+◌, ◌-◌, Bool, true, false, cond, not, ◌||◌, List, [], ◌∷◌, ◌++◌, length, take, drop, replicate, ltb}
-use Rattle.tape.specs.declared.refusal.Refusal.{Refusal}
+use Rattle.std.specs.Prelude.{ℕ, suc, ◌+◌, ◌-◌, not, ◌||◌, List, [], ◌∷◌, ◌++◌, length, take, drop, replicate, ltb}
 use Rattle.tape.specs.declared.refusal.Refusal.TheVariants as refusal
 use Rattle.definitions.specs.declared.options.Optional.TheVariants.{Absent}
-use Rattle.definitions.specs.declared.options.Mode.TheVariants.{Script}
 use Rattle.definitions.specs.declared.options.Settings.{Settings}
 use Rattle.definitions.specs.declared.records.Import.{Import}
 use Rattle.definitions.specs.declared.records.Import.TheVariants.{FileName}
 use Rattle.definitions.specs.declared.records.Record.{Record}
 use Rattle.definitions.specs.declared.state.State.{State}
-use Rattle.definitions.specs.declared.state.Answer.{Answer}
 use Rattle.definitions.specs.declared.state.Answer.TheVariants as answer
 use Rattle.definitions.specs.declared.state.Stepped.{Stepped}
 use Rattle.definitions.specs.declared.state.Written.{Written}
@@ -19,7 +16,7 @@ use Rattle.definitions.specs.Options.{flags_of}
 use Rattle.definitions.specs.Opening.{opening_bytes, judge_opening, settings_of}
 use Rattle.definitions.specs.Tree.{Root}
 use Rattle.definitions.specs.Reading.{read_root}
-use Rattle.definitions.specs.Calls.{Command, call_bytes, notice_bytes}
+use Rattle.definitions.specs.Calls.{call_bytes, notice_bytes}
 use Rattle.definitions.specs.Store.{bound_after, numbered_all}
 use Rattle.definitions.specs.Lowering.{lower_root, commands_of, notices_of}
 use Rattle.definitions.specs.Records.{record_tape}

@@ -1,8 +1,7 @@
 -- The specification's "Calls": "Text lines end at LF, CR, U+2028, U+2029. White space is ECMA-262's WhiteSpace. The first line keeps its front, the last its
 -- back; blank lines vanish unless the text is one line; lines join by one space." (`fixup_whitespace_and_decode_entities` of jsx_impl.rs.)
-use Rattle.std.specs.Prelude.{ℕ, zero, suc, ◌+◌, ◌-◌, Bool, cond, List, [], ◌∷◌}
+use Rattle.std.specs.Prelude.{ℕ, zero, suc, ◌+◌, ◌-◌, cond, List, [], ◌∷◌}
 use Rattle.text.specs.declared.spans.Span.{Span}
-use Rattle.text.specs.declared.chars.Char.{Char}
 use Rattle.text.specs.Utf8.{width}
 use Rattle.text.specs.Chars.{char_of, is_white_space, is_line_terminator}
 use Rattle.text.specs.Spans.{part_of}

@@ -1,5 +1,5 @@
 -- How readings and refusals are put together.
-use Rattle.std.specs.Prelude.{ℕ, ◌+◌, Bool, true, false, cond, List, [], length, ltb}
+use Rattle.std.specs.Prelude.{ℕ, ◌+◌, Bool, true, false, List, length, ltb}
 use Rattle.text.specs.declared.bytes.Found.{Found}
 use Rattle.text.specs.declared.bytes.Found.TheVariants as found
 use Rattle.text.specs.declared.spans.Bounds.{Bounds}
@@ -54,7 +54,7 @@ named Cuts p = stop fault.Cuts 0
 named Empty p = stop fault.EmptyName 0
 named Good p = p
 
--- of two spans of one command the fault whose number comes first: 4, 13, 14 (proofs/FaultOrder, `names-told`)
+-- of two spans of one command the fault whose number comes first: 4, 13, 14 (proofs/FaultOrder, `names_told`)
 unfoldable pub worse : Bounds → Bounds → Bounds
 worse Outside b = Outside
 worse Cuts Outside = Outside

@@ -1,13 +1,12 @@
 -- docs/TAPES.md, "Call tape" and "Grammar": the calls that a tree becomes and the notices on the way (jsx_impl.rs, jsx_self.rs, jsx_source.rs). A command names a binding
 -- by what it is; numbers come later.
-use Rattle.std.specs.Prelude.{ℕ, suc, ◌+◌, Bool, true, false, cond, not, ◌&&◌, ◌||◌, List, [], ◌∷◌, ◌++◌, map, eqb, leb}
+use Rattle.std.specs.Prelude.{ℕ, suc, ◌+◌, Bool, true, false, cond, not, ◌&&◌, ◌||◌, List, [], ◌∷◌, ◌++◌, eqb, leb}
 use Rattle.text.specs.declared.bytes.Found.{Found}
 use Rattle.text.specs.declared.bytes.Found.TheVariants as found
 use Rattle.text.specs.declared.spans.Span.{Span}
 use Rattle.text.specs.Bytes.{ascii, same, find}
 use Rattle.text.specs.Spans.{part_of}
 use Rattle.commands.specs.declared.root.Place.{Place}
-use Rattle.definitions.specs.declared.options.Flags.{Flags}
 use Rattle.definitions.specs.declared.options.Mode.{Mode}
 use Rattle.definitions.specs.declared.options.Mode.TheVariants.{Module, Script, Classic}
 use Rattle.definitions.specs.declared.options.Settings.{Settings}

@@ -9,7 +9,6 @@ use Rattle.commands.specs.declared.opening.FlagsCommand.{FlagsCommand}
 use Rattle.commands.specs.declared.opening.FlagsCommand.TheVariants as flags
 use Rattle.commands.specs.declared.opening.OptionCommand.{OptionCommand}
 use Rattle.commands.specs.declared.opening.OptionCommand.TheVariants as option
-use Rattle.tape.specs.declared.refusal.Refusal.{Refusal}
 use Rattle.tape.specs.declared.refusal.Refusal.TheVariants as refusal
 use Rattle.commands.specs.Opening.{flags_command, option_command}
 use Rattle.definitions.specs.declared.options.Optional.{Optional}
@@ -22,7 +21,7 @@ use Rattle.definitions.specs.declared.options.Form.{Form}
 use Rattle.definitions.specs.declared.options.PragmaRead.{PragmaRead}
 use Rattle.definitions.specs.declared.options.PragmaRead.TheVariants as pragma
 use Rattle.definitions.specs.declared.options.Settings.{Settings}
-use Rattle.definitions.specs.Judging.{Parsed, done, stop, ◌then◌, map, from, wrong, cut, spanned, Judged, accepted, refused, too_long, refuse, refuse_at, read, judge_text}
+use Rattle.definitions.specs.Judging.{Parsed, done, from, wrong, cut, spanned, Judged, accepted, too_long, refuse, refuse_at, read, judge_text}
 use Rattle.definitions.specs.Options.{flags_of, conform}
 use Rattle.definitions.specs.Comments.{with_comments}
 use Rattle.definitions.specs.Pragmas.{pragma_in, form_by}

@@ -1,6 +1,5 @@
 -- docs/TAPES.md, "Settings": what a pragma is (`parse_impl` and `parse_no_ctx` of jsx_impl.rs), and what of it fails.
 use Rattle.std.specs.Prelude.{ℕ, ◌+◌, Bool, true, false, cond, not, ◌&&◌, ◌||◌, List, [], ◌∷◌, length, eqb, leb}
-use Rattle.text.specs.declared.spans.Span.{Span}
 use Rattle.text.specs.Bytes.{ascii, same}
 use Rattle.text.specs.Spans.{part_of}
 use Rattle.definitions.specs.declared.options.Optional.{Optional}

@@ -1,10 +1,9 @@
 -- docs/TAPES.md, "Root tape", "Grammar" and "Refusals": how a root tape is read as a tree, or where it is refused. Faults are told at the earliest command, within one
 -- command in the order 3, 4, 13, 14, 6, 7, 8 (Faults has it apart from any reading).
-use Rattle.std.specs.Prelude.{ℕ, zero, suc, ◌+◌, Bool, true, false, cond, ◌||◌, List, [], ◌∷◌, length, drop, eqb, leb, ltb}
+use Rattle.std.specs.Prelude.{ℕ, zero, suc, Bool, false, cond, ◌||◌, List, [], ◌∷◌, length, drop, eqb, leb, ltb}
 use Rattle.text.specs.declared.spans.Span.{Span}
 use Rattle.text.specs.Spans.{part_of, bounds_of}
 use Rattle.references.specs.References.{has_reference}
-use Rattle.tape.specs.declared.refusal.Fault.{Fault}
 use Rattle.tape.specs.declared.refusal.Fault.TheVariants as fault
 use Rattle.commands.specs.declared.root.Place.{Place}
 use Rattle.commands.specs.declared.root.HeritageCommand.{HeritageCommand}

@@ -1,5 +1,5 @@
 -- docs/TAPES.md, "Record tape": the record tape (module_imports.rs), and how one is read.
-use Rattle.std.specs.Prelude.{ℕ, suc, Bool, true, false, cond, ◌&&◌, ◌||◌, List, [], ◌∷◌, ◌++◌, length, eqb}
+use Rattle.std.specs.Prelude.{ℕ, Bool, true, false, cond, ◌||◌, List, [], ◌∷◌, ◌++◌, eqb}
 use Rattle.definitions.specs.declared.options.Mode.{Mode}
 use Rattle.definitions.specs.declared.options.Mode.TheVariants.{Module, Script, Classic}
 use Rattle.definitions.specs.declared.records.Import.{Import}

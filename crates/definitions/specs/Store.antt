@@ -1,5 +1,5 @@
 -- docs/TAPES.md, "Record tape": what a job binds, and the numbers of bindings. "Bindings count from 0 in order of making, file name included."
-use Rattle.std.specs.Prelude.{ℕ, suc, Bool, true, false, cond, not, ◌&&◌, ◌||◌, List, [], ◌∷◌, ◌++◌, length, eqb, ltb}
+use Rattle.std.specs.Prelude.{ℕ, suc, Bool, true, false, cond, ◌&&◌, ◌||◌, List, [], ◌∷◌, ◌++◌, length, eqb, ltb}
 use Rattle.definitions.specs.declared.options.Mode.{Mode}
 use Rattle.definitions.specs.declared.options.Mode.TheVariants.{Module, Script, Classic}
 use Rattle.definitions.specs.declared.options.Settings.{Settings}

@@ -1,7 +1,7 @@
--- The properties of a name, one by one (`membersAt` of definitions, Reading; `members` of Lowering).
+-- The properties of a name, one by one (`members_at` of definitions, Reading; `members` of Lowering).
 --     MembersLeft                                             how far the writing of them has come
---     members-begin, members-more, members-end, members-cut   from the first on
---     member-within                                           what was read is within the tape
+--     members_begin, members_more, members_end, members_cut   from the first on
+--     member_within                                           what was read is within the tape
 -- Assumes nothing.
 use mathlib.Core.Path.{◌≡◌, refl, sym, ap, ◌∙◌}
 use mathlib.Core.List.{List, [], ◌∷◌, ◌++◌, append-nil, append_assoc}
@@ -15,15 +15,15 @@ use Rattle.commands.specs.declared.root.MemberCommand.{MemberCommand}
 use Rattle.commands.specs.declared.root.MemberCommand.TheVariants as command
 use Rattle.commands.specs.Root.{member_command}
 use Rattle.commands.specs.Sizes.{member_size}
-use Rattle.commands.proofs.Lengths.{member-fits}
+use Rattle.commands.proofs.Lengths.{member_fits}
 use Rattle.definitions.specs.Judging.{Parsed, done, map, from}
 use Rattle.definitions.specs.Reading.{members_by, members_at}
 use Rattle.definitions.specs.Calls as call
 use Rattle.definitions.specs.Lowering.{Output, put_span, members}
 use Rattle.pen.specs.declared.pen.Pen.{Pen}
 use Rattle.pen.specs.Emitting.{Called}
-use Rattle.emit.proofs.Readings.{stopped, named-done, map-done, from-done}
-use Rattle.pen.proofs.Emitting.{called-none, called-then, called-as}
+use Rattle.emit.proofs.Readings.{stopped, named_done, map_done, from_done}
+use Rattle.pen.proofs.Emitting.{called_none, called_then, called_as}
 
 -- ---- reading
 
@@ -51,23 +51,23 @@ pub record MembersLeft (text t : List ℕ) (ms : List Span) (i : ℕ) (cs cs' : 
   pub whole : before ++ members rest ≡ members ms
   pub wrote : Called before cs cs' p p'
 
-pub members-begin : {text t : List ℕ} {ms : List Span} {f u : ℕ} (cs : List ℕ) (p : Pen) → length t < f → members_at f text t ≡ done ms u
+pub members_begin : {text t : List ℕ} {ms : List Span} {f u : ℕ} (cs : List ℕ) (p : Pen) → length t < f → members_at f text t ≡ done ms u
     → MembersLeft text t ms 0 cs cs p p
-members-begin {f = f} {u} cs p h e =
-    record { turns = f; rest = _; size = u; before = []; enough = omega arith; reads = e; whole = refl; wrote = called-none cs p }
+members_begin {f = f} {u} cs p h e =
+    record { turns = f; rest = _; size = u; before = []; enough = omega arith; reads = e; whole = refl; wrote = called_none cs p }
 
 module _ {text t : List ℕ} {ms : List Span} {i : ℕ} {cs cs₁ : List ℕ} {p p₁ : Pen} (l : MembersLeft text t ms i cs cs₁ p p₁) where
   at : {c : MemberCommand} → member_command (drop i t) ≡ c → Turn l.turns text (drop i t) c l.rest l.size
   at q = turn l.turns text (drop i t) l.rest l.size q l.reads
 
-  pub members-more : {s : Span} {cs₂ : List ℕ} {p₂ : Pen} → length cs ≤ 2 ^ 63 → member_command (drop i t) ≡ command.Member s
+  pub members_more : {s : Span} {cs₂ : List ℕ} {p₂ : Pen} → length cs ≤ 2 ^ 63 → member_command (drop i t) ≡ command.Member s
       → Called (put_span call.member_name s) cs₁ cs₂ p₁ p₂ → MembersLeft text t ms (i + 5) cs cs₂ p p₂
   unfolding members members_by
-  members-more {s} short q w =
+  members_more {s} short q w =
       let b = at q in
       let behind : Parsed (List Span) = from 5 (members_at b.turns text (drop 5 (drop i t))) in
-      let m = map-done (s ∷◌) behind (named-done (bounds_of text s) (map (s ∷◌) behind) b.reads) in
-      let r = from-done 5 (members_at b.turns text (drop 5 (drop i t))) m.1 in
+      let m = map_done (s ∷◌) behind (named_done (bounds_of text s) (map (s ∷◌) behind) b.reads) in
+      let r = from_done 5 (members_at b.turns text (drop 5 (drop i t))) m.1 in
       record {
         turns = b.turns;
         rest = m.0;
@@ -76,20 +76,20 @@ module _ {text t : List ℕ} {ms : List Span} {i : ℕ} {cs cs₁ : List ℕ} {p
         enough = omega (arith, l.enough, b.fewer);
         reads = ap (members_at b.turns text) (sym (drop-drop 5 i t)) ∙ r.1;
         whole = append_assoc l.before (put_span call.member_name s) (members m.0) ∙ ap (λ (o : List Span). l.before ++ members o) m.2 ∙ l.whole;
-        wrote = called-then short l.wrote w;
+        wrote = called_then short l.wrote w;
       }
 
-  pub members-end : member_command (drop i t) ≡ command.Other → Called (members ms) cs cs₁ p p₁
+  pub members_end : member_command (drop i t) ≡ command.Other → Called (members ms) cs cs₁ p p₁
   unfolding members members_by
-  members-end q =
+  members_end q =
       let e : done [] 0 ≡ done l.rest l.size = (at q).reads in
       let n : l.rest ≡ [] = cc in
-      called-as (sym (append-nil l.before) ∙ ap (λ (r : List Span). l.before ++ members r) (sym n) ∙ l.whole) l.wrote
+      called_as (sym (append-nil l.before) ∙ ap (λ (r : List Span). l.before ++ members r) (sym n) ∙ l.whole) l.wrote
 
-  pub members-cut : {A : Type 0} → member_command (drop i t) ≡ command.Cut → A
+  pub members_cut : {A : Type 0} → member_command (drop i t) ≡ command.Cut → A
   unfolding members_by
-  members-cut q = stopped (at q).reads
+  members_cut q = stopped (at q).reads
 
 -- a command that was read is within the tape
-pub member-within : (t : List ℕ) (i : ℕ) (c : MemberCommand) → i ≤ length t → member_command (drop i t) ≡ c → i + member_size c ≤ length t
-member-within t i c h q = omega (arith, member-fits (drop i t) q, length-drop i t)
+pub member_within : (t : List ℕ) (i : ℕ) (c : MemberCommand) → i ≤ length t → member_command (drop i t) ≡ c → i + member_size c ≤ length t
+member_within t i c h q = omega (arith, member_fits (drop i t) q, length-drop i t)

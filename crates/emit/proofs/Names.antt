@@ -1,6 +1,6 @@
 -- A name by its command (`name_at` of definitions, Reading).
---     name-plain, name-identifier, name-this, name-namespaced     what was read where the command stands
---     name-wrong, name-cut                                        where nothing can be read
+--     name_plain, name_identifier, name_this, name_namespaced     what was read where the command stands
+--     name_wrong, name_cut                                        where nothing can be read
 -- Assumes nothing.
 use mathlib.Core.Path.{◌≡◌}
 use mathlib.Core.List.{List}
@@ -13,7 +13,7 @@ use Rattle.commands.specs.Root.{name_command}
 use Rattle.definitions.specs.Judging.{done, map, from, named, worse}
 use Rattle.definitions.specs.Tree.{Name, plain, identifier, this, namespaced}
 use Rattle.definitions.specs.Reading.{members_at, name_by, name_at}
-use Rattle.emit.proofs.Readings.{stopped, named-done, map-done, from-done}
+use Rattle.emit.proofs.Readings.{stopped, named_done, map_done, from_done}
 
 module _ (f : ℕ) (text t : List ℕ) (n : Name) (u : ℕ) where
   -- a name with properties, which begin k bytes into t
@@ -23,41 +23,41 @@ module _ (f : ℕ) (text t : List ℕ) (n : Name) (u : ℕ) where
     pub is : make members ≡ n
     pub reads : members_at f text (drop k t) ≡ done members size
 
-  with-members : (make : List Span → Name) (k : ℕ) → map make (from k (members_at f text (drop k t))) ≡ done n u → WithMembers make k
-  with-members make k e =
-      let m = map-done make (from k (members_at f text (drop k t))) e in
-      let r = from-done k (members_at f text (drop k t)) m.1 in
+  with_members : (make : List Span → Name) (k : ℕ) → map make (from k (members_at f text (drop k t))) ≡ done n u → WithMembers make k
+  with_members make k e =
+      let m = map_done make (from k (members_at f text (drop k t))) e in
+      let r = from_done k (members_at f text (drop k t)) m.1 in
       record { members = m.0; size = r.0; is = m.2; reads = r.1 }
 
   module _ (e : name_at f text t ≡ done n u) where
-    pub name-plain : (s : Span) → name_command t ≡ command.Plain s → plain s ≡ n
+    pub name_plain : (s : Span) → name_command t ≡ command.Plain s → plain s ≡ n
     unfolding name_at name_by
-    name-plain s q =
+    name_plain s q =
         let d : named (bounds_of text s) (done (plain s) 5) ≡ done n u = rw q at e in
-        let g : done (plain s) 5 ≡ done n u = named-done (bounds_of text s) (done (plain s) 5) d in
+        let g : done (plain s) 5 ≡ done n u = named_done (bounds_of text s) (done (plain s) 5) d in
         cc
 
-    pub name-identifier : (s : Span) → name_command t ≡ command.Identifier s → WithMembers (identifier s) 5
+    pub name_identifier : (s : Span) → name_command t ≡ command.Identifier s → WithMembers (identifier s) 5
     unfolding name_at name_by
-    name-identifier s q =
+    name_identifier s q =
         let d : named (bounds_of text s) (map (identifier s) (from 5 (members_at f text (drop 5 t)))) ≡ done n u = rw q at e in
-        with-members (identifier s) 5 (named-done (bounds_of text s) (map (identifier s) (from 5 (members_at f text (drop 5 t)))) d)
+        with_members (identifier s) 5 (named_done (bounds_of text s) (map (identifier s) (from 5 (members_at f text (drop 5 t)))) d)
 
-    pub name-this : name_command t ≡ command.This → WithMembers this 1
+    pub name_this : name_command t ≡ command.This → WithMembers this 1
     unfolding name_at name_by
-    name-this q = with-members this 1 (rw q at e)
+    name_this q = with_members this 1 (rw q at e)
 
-    pub name-namespaced : (s r : Span) → name_command t ≡ command.Namespaced s r → namespaced s r ≡ n
+    pub name_namespaced : (s r : Span) → name_command t ≡ command.Namespaced s r → namespaced s r ≡ n
     unfolding name_at name_by
-    name-namespaced s r q =
+    name_namespaced s r q =
         let d : named (worse (bounds_of text s) (bounds_of text r)) (done (namespaced s r) 9) ≡ done n u = rw q at e in
-        let g : done (namespaced s r) 9 ≡ done n u = named-done (worse (bounds_of text s) (bounds_of text r)) (done (namespaced s r) 9) d in
+        let g : done (namespaced s r) 9 ≡ done n u = named_done (worse (bounds_of text s) (bounds_of text r)) (done (namespaced s r) 9) d in
         cc
 
-    pub name-wrong : {A : Type 0} → name_command t ≡ command.Wrong → A
+    pub name_wrong : {A : Type 0} → name_command t ≡ command.Wrong → A
     unfolding name_at name_by
-    name-wrong q = stopped (rw q at e)
+    name_wrong q = stopped (rw q at e)
 
-    pub name-cut : {A : Type 0} → name_command t ≡ command.Cut → A
+    pub name_cut : {A : Type 0} → name_command t ≡ command.Cut → A
     unfolding name_at name_by
-    name-cut q = stopped (rw q at e)
+    name_cut q = stopped (rw q at e)

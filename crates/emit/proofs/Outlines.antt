@@ -79,8 +79,8 @@ module _ (text : List ℕ) (s : Settings) (allowed : Bool) where
   mutual
     unfolding lower_node classic_call source_output self_output no_key key_notice attribute_name
 
-    pub outlined-node : (n : Node) → lower_node brief n ≡ lower_node whole n
-    outlined-node (element p n a k) =
+    pub outlined_node : (n : Node) → lower_node brief n ≡ lower_node whole n
+    outlined_node (element p n a k) =
         λ ι.
         cond (is_classic s.mode || keys false a ι)
         (classic_call whole
@@ -88,7 +88,7 @@ module _ (text : List ℕ) (s : Settings) (allowed : Bool) where
         (children k ι)
         (name n ι))
         (automatic k (source_output whole p ++ self_output whole) (attributes false a) (children k) (key a {x = no_key brief} refl) (name n) ι)
-    outlined-node (fragment p k) =
+    outlined_node (fragment p k) =
         λ ι.
         cond (is_classic s.mode)
         (classic_call whole (object_of []) (children k ι) (fragment_tag s.mode))
@@ -118,7 +118,7 @@ module _ (text : List ℕ) (s : Settings) (allowed : Bool) where
     value (string r) = refl
     value (expression e) = refl
     value empty = refl
-    value (node_value n) = outlined-node n
+    value (node_value n) = outlined_node n
 
     children : (k : Children) → lower_children brief k ≡ lower_children whole k
     children no_children = refl
@@ -126,4 +126,4 @@ module _ (text : List ℕ) (s : Settings) (allowed : Bool) where
     children (expression_child e k) = λ ι. put_over call.expression e ++ children k ι
     children (empty_child k) = children k
     children (spread_child e k) = λ ι. put_over call.spread_item e ++ children k ι
-    children (node_child n k) = λ ι. outlined-node n ι ++ children k ι
+    children (node_child n k) = λ ι. outlined_node n ι ++ children k ι

@@ -1,9 +1,9 @@
 -- What was read whole, taken apart (`Parsed` of definitions, Judging).
 --     stopped                      a fault is nothing read
---     named-done, spanned-done     what follows a span in order
---     map-done, from-done, then-done     what was read before it was changed, further on, or first
+--     named_done, spanned_done     what follows a span in order
+--     map_done, from_done, then_done     what was read before it was changed, further on, or first
 --     seen                               what a reader of a command answered
---     in-part, part-short                a reading further on, in the part that is handed on
+--     in_part, part_short                a reading further on, in the part that is handed on
 -- Assumes nothing.
 use mathlib.Core.Path.{◌≡◌, refl, sym, ap, ◌∙◌}
 use mathlib.Core.List.{List}
@@ -12,7 +12,7 @@ use lib.ListN.{length, take, drop, length-drop}
 use native.Mathlib.Omega.{arith}
 use Rattle.text.specs.declared.spans.Bounds.{Bounds}
 use Rattle.text.specs.declared.spans.Bounds.TheVariants.{Outside, Cuts, Empty, Good}
-use Rattle.text.proofs.Lists.{tail-part}
+use Rattle.text.proofs.Lists.{tail_part}
 use Rattle.tape.specs.declared.refusal.Fault.{Fault}
 use Rattle.definitions.specs.Judging.{Parsed, done, stop, ◌then◌, map, from, spanned, named}
 
@@ -20,43 +20,43 @@ pub stopped : {A B : Type 0} {f : Fault} {p : ℕ} {x : A} {u : ℕ} → stop f 
 stopped e = let z : ◌≡◌ {A = ℕ} 0 1 = cc in absurd (omega arith)
 
 module _ {A : Type 0} {x : A} {u : ℕ} where
-  pub named-done : (b : Bounds) (p : Parsed A) → named b p ≡ done x u → p ≡ done x u
+  pub named_done : (b : Bounds) (p : Parsed A) → named b p ≡ done x u → p ≡ done x u
   unfolding named
-  named-done Outside p e = stopped e
-  named-done Cuts p e = stopped e
-  named-done Empty p e = stopped e
-  named-done Good p e = e
+  named_done Outside p e = stopped e
+  named_done Cuts p e = stopped e
+  named_done Empty p e = stopped e
+  named_done Good p e = e
 
-  pub spanned-done : (b : Bounds) (p : Parsed A) → spanned b p ≡ done x u → p ≡ done x u
+  pub spanned_done : (b : Bounds) (p : Parsed A) → spanned b p ≡ done x u → p ≡ done x u
   unfolding spanned
-  spanned-done Outside p e = stopped e
-  spanned-done Cuts p e = stopped e
-  spanned-done Empty p e = e
-  spanned-done Good p e = e
+  spanned_done Outside p e = stopped e
+  spanned_done Cuts p e = stopped e
+  spanned_done Empty p e = e
+  spanned_done Good p e = e
 
-  pub from-done : (n : ℕ) (p : Parsed A) → from n p ≡ done x u → (v : ℕ) × (p ≡ done x v) × (u ≡ n + v)
+  pub from_done : (n : ℕ) (p : Parsed A) → from n p ≡ done x u → (v : ℕ) × (p ≡ done x v) × (u ≡ n + v)
   unfolding from
-  from-done n (done y v) e = let q : y ≡ x = cc in let r : n + v ≡ u = cc in (v, cc, omega arith)
-  from-done n (stop f p) e = stopped e
+  from_done n (done y v) e = let q : y ≡ x = cc in let r : n + v ≡ u = cc in (v, cc, omega arith)
+  from_done n (stop f p) e = stopped e
 
-pub then-done : {A B : Type 0} {y : B} {u : ℕ} (p : Parsed A) (k : A → ℕ → Parsed B) → (p then k) ≡ done y u
+pub then_done : {A B : Type 0} {y : B} {u : ℕ} (p : Parsed A) (k : A → ℕ → Parsed B) → (p then k) ≡ done y u
     → (x : A) × (v : ℕ) × (p ≡ done x v) × (k x v ≡ done y u)
 unfolding ◌then◌
-then-done (done x v) k e = (x, v, refl, e)
-then-done (stop f p) k e = stopped e
+then_done (done x v) k e = (x, v, refl, e)
+then_done (stop f p) k e = stopped e
 
-pub map-done : {A B : Type 0} {y : B} {u : ℕ} (g : A → B) (p : Parsed A) → map g p ≡ done y u → (x : A) × (p ≡ done x u) × (g x ≡ y)
+pub map_done : {A B : Type 0} {y : B} {u : ℕ} (g : A → B) (p : Parsed A) → map g p ≡ done y u → (x : A) × (p ≡ done x u) × (g x ≡ y)
 unfolding map ◌then◌
-map-done g (done x v) e = (x, cc, cc)
-map-done g (stop f p) e = stopped e
+map_done g (done x v) e = (x, cc, cc)
+map_done g (stop f p) e = stopped e
 
 -- a reader's answer at `&t[i..]`, by its contract and by the arm that was taken
 pub seen : {A : Type 0} (g : List ℕ → A) (t : List ℕ) (i : ℕ) {r k : A} → r ≡ g (take (length t - i) (drop i t)) → r ≡ k → g (drop i t) ≡ k
-seen g t i p q = ap g (sym (tail-part t i)) ∙ sym p ∙ q
+seen g t i p q = ap g (sym (tail_part t i)) ∙ sym p ∙ q
 
 -- what reads from place k on reads the same in `&t[k..]`, which is no longer than t
-pub in-part : {A : Type 0} (g : List ℕ → A) (t : List ℕ) (k : ℕ) {x : A} → g (drop k t) ≡ x → g (take (length t - k) (drop k t)) ≡ x
-in-part g t k e = ap g (tail-part t k) ∙ e
+pub in_part : {A : Type 0} (g : List ℕ → A) (t : List ℕ) (k : ℕ) {x : A} → g (drop k t) ≡ x → g (take (length t - k) (drop k t)) ≡ x
+in_part g t k e = ap g (tail_part t k) ∙ e
 
-pub part-short : (t : List ℕ) (k f : ℕ) → length t < f → length (take (length t - k) (drop k t)) < f
-part-short t k f h = rw (tail-part t k) (omega (arith, length-drop k t))
+pub part_short : (t : List ℕ) (k f : ℕ) → length t < f → length (take (length t - k) (drop k t)) < f
+part_short t k f h = rw (tail_part t k) (omega (arith, length-drop k t))

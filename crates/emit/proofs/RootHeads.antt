@@ -1,9 +1,9 @@
--- The head of a root tape: heritage, scopes, and where the element or fragment stands (`scopesAt` and `readRoot` of definitions, Reading).
---     inside-more, inside-end     the first scope that is no block and no arrow, scope by scope
+-- The head of a root tape: heritage, scopes, and where the element or fragment stands (`scopes_at` and `read_root` of definitions, Reading).
+--     inside_more, inside_end     the first scope that is no block and no arrow, scope by scope
 --     ScopesLeft                  how far reading the scopes has come
---     left-begin, left-scope, left-element, left-fragment, left-wrong, left_cut, left-bad     from the first scope on
---     scope-within                a command that was read is within the tape
---     head_of, head-wrong, head-cut, head-bad     the whole head, by the heritage
+--     left_begin, left_scope, left_element, left_fragment, left_wrong, left_cut, left_bad     from the first scope on
+--     scope_within                a command that was read is within the tape
+--     head_of, head_wrong, head_cut, head_bad     the whole head, by the heritage
 -- Assumes nothing.
 use mathlib.Core.Path.{◌≡◌, refl, sym, ap, subst, ◌∙◌}
 use mathlib.Core.Bool.{Bool, true, false, cond, not, ◌&&◌, ◌||◌}
@@ -14,7 +14,7 @@ use lib.ListN.{length, take, drop, length-drop}
 use lib.Seq.{drop-drop}
 use lib.Dec.{eqb, leb, ltb}
 use borrow.Author.Tests.{leb-true, leb-false, le-leb, lt-leb, ne_eqb}
-use Rattle.text.proofs.Lists.{tail-part}
+use Rattle.text.proofs.Lists.{tail_part}
 use Rattle.tape.specs.declared.refusal.Fault.TheVariants as fault
 use Rattle.commands.specs.declared.root.Place.{Place}
 use Rattle.commands.specs.declared.root.ScopeCommand.{ScopeCommand}
@@ -23,19 +23,19 @@ use Rattle.commands.specs.declared.root.HeritageCommand.{HeritageCommand}
 use Rattle.commands.specs.declared.root.HeritageCommand.TheVariants as heritages
 use Rattle.commands.specs.Root.{scope_with, scope_command, heritage_command}
 use Rattle.commands.specs.Sizes.{scope_size}
-use Rattle.commands.proofs.Lengths.{scope-fits}
+use Rattle.commands.proofs.Lengths.{scope_fits}
 use Rattle.definitions.specs.Judging.{Parsed, done, stop, ◌then◌, map, from}
 use Rattle.definitions.specs.Tree.{Node, Root}
 use Rattle.definitions.specs.Reading.{Scoped, in_scope, unscoped, is_function, opened, element_at, fragment_at, scopes_by, scopes_at, root_by, whole, read_root}
 use Rattle.definitions.specs.Lowering.{inside_constructor, no_super_class, can_add_self}
 use Rattle.emit.specs.declared.jsx_self.Scopes.{Scopes}
-use Rattle.emit.specs.Heads.{NodeAt, element-at, fragment-at, ScopesOf, HeadOf}
-use Rattle.emit.proofs.Readings.{stopped, map-done, from-done, in-part, part-short}
+use Rattle.emit.specs.Heads.{NodeAt, element_headed, fragment_headed, ScopesOf, HeadOf}
+use Rattle.emit.proofs.Readings.{stopped, map_done, from_done, in_part, part_short}
 
 -- ---- the first scope that is no block and no arrow
 
-inside-first : (k : ℕ) (x : Bool) → cond (leb k 1) x (eqb k 2) ≡ (eqb k 2 || (not (leb 2 k) && x))
-inside-first k x = go (leb k 1) refl
+inside_first : (k : ℕ) (x : Bool) → cond (leb k 1) x (eqb k 2) ≡ (eqb k 2 || (not (leb 2 k) && x))
+inside_first k x = go (leb k 1) refl
   where
     end : (b : Bool) → b ≡ (b || false)
     end true = refl
@@ -49,18 +49,18 @@ inside-first k x = go (leb k 1) refl
         let h : 1 < k = leb-false k 1 e in
         rw (le-leb 2 k (omega arith)) (end (eqb k 2))
 
-inside-more : (inside known : Bool) (k : ℕ) (ks : List ℕ) → (inside || (not known && inside_constructor (k ∷ ks)))
+inside_more : (inside known : Bool) (k : ℕ) (ks : List ℕ) → (inside || (not known && inside_constructor (k ∷ ks)))
     ≡ ((inside || (not known && eqb k 2)) || (not (known || is_function k) && inside_constructor ks))
 unfolding inside_constructor
-inside-more true known k ks = refl
-inside-more false true k ks = refl
-inside-more false false k ks = inside-first k (inside_constructor ks)
+inside_more true known k ks = refl
+inside_more false true k ks = refl
+inside_more false false k ks = inside_first k (inside_constructor ks)
 
-inside-end : (inside known : Bool) → (inside || (not known && inside_constructor [])) ≡ inside
+inside_end : (inside known : Bool) → (inside || (not known && inside_constructor [])) ≡ inside
 unfolding inside_constructor
-inside-end true known = refl
-inside-end false true = refl
-inside-end false false = refl
+inside_end true known = refl
+inside_end false true = refl
+inside_end false false = refl
 
 -- ---- reading
 
@@ -104,21 +104,21 @@ pub record ScopesLeft (text t : List ℕ) (s : Scoped) (known inside : Bool) (i 
   pub same : inside_constructor s.kinds ≡ (inside || (not known && inside_constructor rest.kinds))
   pub node : rest.node ≡ s.node
 
-pub left-begin : {text t : List ℕ} {s : Scoped} {f u : ℕ} → length t < f → scopes_at f text false t ≡ done s u → ScopesLeft text t s false false 0
-left-begin {s = s} {f} {u} h e =
+pub left_begin : {text t : List ℕ} {s : Scoped} {f u : ℕ} → length t < f → scopes_at f text false t ≡ done s u → ScopesLeft text t s false false 0
+left_begin {s = s} {f} {u} h e =
     record { turns = f; rest = s; size = u; enough = omega arith; reads = e; same = refl; node = refl }
 
 module _ {text t : List ℕ} {s : Scoped} {known inside : Bool} {i : ℕ} (l : ScopesLeft text t s known inside i) where
   at : {c : ScopeCommand} → scope_command known (drop i t) ≡ c → Turn l.turns text known (drop i t) c l.rest l.size
   at q = turn l.turns text known (drop i t) l.rest l.size q l.reads
 
-  pub left-scope : {k : ℕ} → scope_command known (drop i t) ≡ scopes.Scope k
+  pub left_scope : {k : ℕ} → scope_command known (drop i t) ≡ scopes.Scope k
       → ScopesLeft text t s (known || is_function k) (inside || (not known && eqb k 2)) (i + 2)
   unfolding scopes_by
-  left-scope {k} q =
+  left_scope {k} q =
       let b = at q in
-      let m = map-done (in_scope k) (from 2 (scopes_at b.turns text (known || is_function k) (drop 2 (drop i t)))) b.reads in
-      let r = from-done 2 (scopes_at b.turns text (known || is_function k) (drop 2 (drop i t))) m.1 in
+      let m = map_done (in_scope k) (from 2 (scopes_at b.turns text (known || is_function k) (drop 2 (drop i t)))) b.reads in
+      let r = from_done 2 (scopes_at b.turns text (known || is_function k) (drop 2 (drop i t))) m.1 in
       record {
         turns = b.turns;
         rest = m.0;
@@ -128,68 +128,68 @@ module _ {text t : List ℕ} {s : Scoped} {known inside : Bool} {i : ℕ} (l : S
         same =
             l.same
             ∙ ap (λ (o : Scoped). inside || (not known && inside_constructor o.kinds)) (sym m.2)
-            ∙ inside-more inside known k m.0.kinds;
+            ∙ inside_more inside known k m.0.kinds;
         node = ap (λ (o : Scoped). o.node) m.2 ∙ l.node;
       }
 
   -- where the element or fragment stands, it is all that is left
   ended : (p : Parsed Node) → map unscoped p ≡ done l.rest l.size → (inside ≡ inside_constructor s.kinds) × (p ≡ done s.node l.size)
   ended p e =
-      let m = map-done unscoped p e in (
-        sym (l.same ∙ ap (λ (o : Scoped). inside || (not known && inside_constructor o.kinds)) (sym m.2) ∙ inside-end inside known),
+      let m = map_done unscoped p e in (
+        sym (l.same ∙ ap (λ (o : Scoped). inside || (not known && inside_constructor o.kinds)) (sym m.2) ∙ inside_end inside known),
         m.1 ∙ ap (λ (n : Node). done n l.size) (ap (λ (o : Scoped). o.node) m.2 ∙ l.node),
       )
 
-  pub left-element : {p : Place} → scope_command known (drop i t) ≡ scopes.Element p → ScopesOf text t s (record { inside = inside; used = i })
+  pub left_element : {p : Place} → scope_command known (drop i t) ≡ scopes.Element p → ScopesOf text t s (record { inside = inside; used = i })
   unfolding scopes_by
-  left-element {p} q =
+  left_element {p} q =
       let b = at q in
       let e = ended (opened 0 p (element_at b.turns text 0 p (drop 9 (drop i t)))) b.reads in
       record {
         inside = e.0;
-        node = element-at p b.turns l.size (omega (arith, l.enough, b.fewer, length-drop i t)) (known_more known (drop i t) (scopes.Element p) (λ w. let z : ◌≡◌ {A = ℕ} 0 1 = cc in omega arith) q) e.1;
+        node = element_headed p b.turns l.size (omega (arith, l.enough, b.fewer, length-drop i t)) (known_more known (drop i t) (scopes.Element p) (λ w. let z : ◌≡◌ {A = ℕ} 0 1 = cc in omega arith) q) e.1;
       }
 
-  pub left-fragment : {p : Place} → scope_command known (drop i t) ≡ scopes.Fragment p → ScopesOf text t s (record { inside = inside; used = i })
+  pub left_fragment : {p : Place} → scope_command known (drop i t) ≡ scopes.Fragment p → ScopesOf text t s (record { inside = inside; used = i })
   unfolding scopes_by
-  left-fragment {p} q =
+  left_fragment {p} q =
       let b = at q in
       let e = ended (opened 0 p (fragment_at b.turns text 0 p (drop 9 (drop i t)))) b.reads in
       record {
         inside = e.0;
-        node = fragment-at p b.turns l.size (omega (arith, l.enough, b.fewer, length-drop i t)) (known_more known (drop i t) (scopes.Fragment p) (λ w. let z : ◌≡◌ {A = ℕ} 0 1 = cc in omega arith) q) e.1;
+        node = fragment_headed p b.turns l.size (omega (arith, l.enough, b.fewer, length-drop i t)) (known_more known (drop i t) (scopes.Fragment p) (λ w. let z : ◌≡◌ {A = ℕ} 0 1 = cc in omega arith) q) e.1;
       }
 
-  pub left-wrong : {A : Type 0} → scope_command known (drop i t) ≡ scopes.Wrong → A
+  pub left_wrong : {A : Type 0} → scope_command known (drop i t) ≡ scopes.Wrong → A
   unfolding scopes_by
-  left-wrong q = stopped (at q).reads
+  left_wrong q = stopped (at q).reads
 
   pub left_cut : {A : Type 0} → scope_command known (drop i t) ≡ scopes.Cut → A
   unfolding scopes_by
   left_cut q = stopped (at q).reads
 
-  pub left-bad : {A : Type 0} → scope_command known (drop i t) ≡ scopes.Bad → A
+  pub left_bad : {A : Type 0} → scope_command known (drop i t) ≡ scopes.Bad → A
   unfolding scopes_by
-  left-bad q = stopped (at q).reads
+  left_bad q = stopped (at q).reads
 
-pub scope-within : (known : Bool) (t : List ℕ) (i : ℕ) (c : ScopeCommand) → i ≤ length t → scope_command known (drop i t) ≡ c → i + scope_size c ≤ length t
-scope-within known t i c h q = omega (arith, scope-fits known (drop i t) q, length-drop i t)
+pub scope_within : (known : Bool) (t : List ℕ) (i : ℕ) (c : ScopeCommand) → i ≤ length t → scope_command known (drop i t) ≡ c → i + scope_size c ≤ length t
+scope_within known t i c h q = omega (arith, scope_fits known (drop i t) q, length-drop i t)
 
 -- ---- the whole head
 
-whole-done : {A : Type 0} {x : A} {u : ℕ} (t : List ℕ) (p : Parsed A) → whole t p ≡ done x u → p ≡ done x u
+whole_done : {A : Type 0} {x : A} {u : ℕ} (t : List ℕ) (p : Parsed A) → whole t p ≡ done x u → p ≡ done x u
 unfolding whole ◌then◌
-whole-done {A} {x} {u} t (done a v) e = go (ltb v (length t)) e
+whole_done {A} {x} {u} t (done a v) e = go (ltb v (length t)) e
   where
     go : (b : Bool) → cond b (stop fault.Grammar v) (done a v) ≡ done x u → done a v ≡ done x u
     go true e = stopped e
     go false e = e
-whole-done t (stop f p) e = stopped e
+whole_done t (stop f p) e = stopped e
 
 module _ (text t : List ℕ) (o : Root) (u : ℕ) (e : read_root text t ≡ done o u) where
-  by-heritage : {c : HeritageCommand} → heritage_command t ≡ c → root_by t c (from 2 (scopes_at (suc (length t)) text false (drop 2 t))) ≡ done o u
+  by_heritage : {c : HeritageCommand} → heritage_command t ≡ c → root_by t c (from 2 (scopes_at (suc (length t)) text false (drop 2 t))) ≡ done o u
   unfolding read_root
-  by-heritage {c} q = whole-done t (root_by t c (from 2 (scopes_at (suc (length t)) text false (drop 2 t)))) (rw q at e)
+  by_heritage {c} q = whole_done t (root_by t c (from 2 (scopes_at (suc (length t)) text false (drop 2 t)))) (rw q at e)
 
   pub head_of : {h : ℕ} {x : Bool} (r : Scopes) → heritage_command t ≡ heritages.Heritage h
       → ((f : ℕ) (s : Scoped) (v : ℕ) → length (take (length t - 2) (drop 2 t)) < f → scopes_at f text false (take (length t - 2) (drop 2 t)) ≡ done s v
@@ -197,25 +197,25 @@ module _ (text t : List ℕ) (o : Root) (u : ℕ) (e : read_root text t ≡ done
       → x ≡ (not r.inside || no_super_class h) → HeadOf text t o (record { allowed = x; used = 2 + r.used })
   unfolding root_by
   head_of {h} r q scoped a =
-      let d : map (λ s. record { heritage = h; scopes = s.kinds; node = s.node }) (from 2 (scopes_at (suc (length t)) text false (drop 2 t))) ≡ done o u = by-heritage q in
-      let m = map-done {B = Root} (λ s. record { heritage = h; scopes = s.kinds; node = s.node }) (from 2 (scopes_at (suc (length t)) text false (drop 2 t))) d in
-      let b = from-done 2 (scopes_at (suc (length t)) text false (drop 2 t)) m.1 in
+      let d : map (λ s. record { heritage = h; scopes = s.kinds; node = s.node }) (from 2 (scopes_at (suc (length t)) text false (drop 2 t))) ≡ done o u = by_heritage q in
+      let m = map_done {B = Root} (λ s. record { heritage = h; scopes = s.kinds; node = s.node }) (from 2 (scopes_at (suc (length t)) text false (drop 2 t))) d in
+      let b = from_done 2 (scopes_at (suc (length t)) text false (drop 2 t)) m.1 in
       let s : ScopesOf text (drop 2 t) m.0 r =
-      subst (λ (l : List ℕ). ScopesOf text l m.0 r) (tail-part t 2)
-      (scoped (suc (length t)) m.0 b.0 (part-short t 2 (suc (length t)) (omega arith)) (in-part (scopes_at (suc (length t)) text false) t 2 b.1)) in
+      subst (λ (l : List ℕ). ScopesOf text l m.0 r) (tail_part t 2)
+      (scoped (suc (length t)) m.0 b.0 (part_short t 2 (suc (length t)) (omega arith)) (in_part (scopes_at (suc (length t)) text false) t 2 b.1)) in
       record {
         allowed = a ∙ ap (λ (z : Bool). not z || no_super_class h) s.inside ∙ ap can_add_self m.2;
         node = subst (λ (l : List ℕ). NodeAt text l o.node) (drop-drop r.used 2 t) (subst (NodeAt text (drop r.used (drop 2 t))) (ap (λ (z : Root). z.node) m.2) s.node);
       }
 
-  pub head-wrong : {A : Type 0} → heritage_command t ≡ heritages.Wrong → A
+  pub head_wrong : {A : Type 0} → heritage_command t ≡ heritages.Wrong → A
   unfolding root_by
-  head-wrong q = stopped (by-heritage q)
+  head_wrong q = stopped (by_heritage q)
 
-  pub head-cut : {A : Type 0} → heritage_command t ≡ heritages.Cut → A
+  pub head_cut : {A : Type 0} → heritage_command t ≡ heritages.Cut → A
   unfolding root_by
-  head-cut q = stopped (by-heritage q)
+  head_cut q = stopped (by_heritage q)
 
-  pub head-bad : {A : Type 0} → heritage_command t ≡ heritages.Bad → A
+  pub head_bad : {A : Type 0} → heritage_command t ≡ heritages.Bad → A
   unfolding root_by
-  head-bad q = stopped (by-heritage q)
+  head_bad q = stopped (by_heritage q)

@@ -12,9 +12,9 @@ use Rattle.emit.specs.declared.jsx_self.Head.{Head}
 
 -- the element or fragment n at the front of t, read with turns enough
 pub data NodeAt (text t : List ℕ) (n : Node) : Type 0 where
-  element-at : (p : Place) (f u : ℕ) → length t ≤ f → scope_command true t ≡ scopes.Element p
+  element_headed : (p : Place) (f u : ℕ) → length t ≤ f → scope_command true t ≡ scopes.Element p
       → opened 0 p (element_at f text 0 p (drop 9 t)) ≡ done n u → NodeAt text t n
-  fragment-at : (p : Place) (f u : ℕ) → length t ≤ f → scope_command true t ≡ scopes.Fragment p
+  fragment_headed : (p : Place) (f u : ℕ) → length t ≤ f → scope_command true t ≡ scopes.Fragment p
       → opened 0 p (fragment_at f text 0 p (drop 9 t)) ≡ done n u → NodeAt text t n
 
 -- the scopes of s, which begin t

@@ -12,6 +12,6 @@ joined at k n xs ys within fits =
     let back = ap (take n) (drop_at (take at xs) (ys ++ post_of at k xs) at (length-take-le at xs within)) ∙ take-append-le n ys (post_of at k xs) fits in
     sym (take-add at n all ∙ ap (λ l. l ++ take n (drop at all)) front ∙ ap (λ l. take at xs ++ l) back)
 
-pub filled-more : (a b c : Option (List ℕ)) (at k n : ℕ) (xs ys : List ℕ) → at ≤ length xs → n ≤ length ys → Consumes a b (take at xs) → Consumes b c (take n ys)
+pub filled_more : (a b c : Option (List ℕ)) (at k n : ℕ) (xs ys : List ℕ) → at ≤ length xs → n ≤ length ys → Consumes a b (take at xs) → Consumes b c (take n ys)
     → Consumes a c (take (at + n) (put_mid at k xs ys))
-filled-more a b c at k n xs ys within fits before read = subst (Consumes a c) (joined at k n xs ys within fits) (Consumes-trans a b c _ _ before read)
+filled_more a b c at k n xs ys within fits before read = subst (Consumes a c) (joined at k n xs ys within fits) (Consumes-trans a b c _ _ before read)

@@ -35,11 +35,15 @@ pub fn read_full<R: Read>(reader: &mut R, buf: &mut [u8]) -> usize
     done
 }
 
-// The file's bytes at the start of the buffer, as far as it has room, and how many they are. A file that is missing has none.
-pub fn read_file<R: Files>(rt: &R, name: &str, buf: &mut [u8]) -> usize
+// The file's bytes at the start of the buffer, as far as it has room, and how many they are. A file that is missing has none, and a name that is not UTF-8 is no
+// file's here.
+pub fn read_file<R: Files>(rt: &R, name: &[u8], buf: &mut [u8]) -> usize
     ensures { IsPrefixLen result buf.new }
 {
-    match fs::open(rt, name) {
+    let Ok(path) = str::from_utf8(name) else {
+        return 0;
+    };
+    match fs::open(rt, path) {
         Ok(mut file) => read_full(&mut file, buf),
         Err(_) => 0,
     }

@@ -1,8 +1,8 @@
 -- Attributes and keys written one at a time.
---     value-behind-written, plain-written     an attribute's value, a plain attribute
---     plain-property, plain-passed, ..        the step that an attribute at the front is
---     AttributesLeft, left-begin, left-more, left-done    the loop over attributes
---     key-none, key-some                      the value of the last key
+--     value_behind_written, plain_written     an attribute's value, a plain attribute
+--     plain_property, plain_passed, ..        the step that an attribute at the front is
+--     AttributesLeft, left_begin, left_more, left_done    the loop over attributes
+--     key_none, key_some                      the value of the last key
 -- Assumes nothing.
 use mathlib.Core.Path.{◌≡◌, refl, sym, ap, subst, ◌∙◌}
 use mathlib.Core.Bool.{Bool, true, false, cond, ◌||◌, ◌&&◌}
@@ -14,7 +14,7 @@ use lib.Dec.{eqb}
 use Rattle.text.specs.declared.spans.Span.{Span}
 use Rattle.text.specs.Bytes.{find}
 use Rattle.text.specs.Spans.{part_of}
-use Rattle.text.proofs.Lists.{tail-part}
+use Rattle.text.proofs.Lists.{tail_part}
 use Rattle.commands.specs.declared.root.AttributeCommand.TheVariants as attributes
 use Rattle.commands.specs.Root.{attribute_command}
 use Rattle.definitions.specs.Calls as call
@@ -26,36 +26,36 @@ use Rattle.pen.specs.declared.pen.Pen.{Pen}
 use Rattle.pen.specs.Emitting.{Called, Noticed, Produced}
 use Rattle.parts.specs.declared.jsx_impl.Props.{Props}
 use Rattle.parts.specs.Promises.{LiteralWritten, some_output}
-use Rattle.jsx.specs.Parts.{Written, Moves, ends, goes, KeyFirst, other, first, KeyAt, no-key, key-at, AttributesEnd, AttributesGo, AttributeStep, AttributesWritten}
-use Rattle.parts.proofs.Inversions.{Behind, Within, attributes-end, attributes-plain, attributes-namespaced, attributes-spread, attributes-literal}
+use Rattle.jsx.specs.Parts.{Written, Moves, ends, goes, KeyFirst, other, first, KeyAt, without_key, key_at, AttributesEnd, AttributesGo, AttributeStep, AttributesWritten}
+use Rattle.parts.proofs.Inversions.{Behind, Within, attributes_end, attributes_plain, attributes_namespaced, attributes_spread, attributes_literal}
 use Rattle.jsx.proofs.Writing.{none, along, called}
 use Rattle.parts.specs.Promises.{starts_with}
-use Rattle.parts.proofs.Ends.{attributes-over}
-use Rattle.jsx.proofs.Turns.{Left, left-start, left-goes, left-ends, or_assoc, or-false}
-use Rattle.jsx.proofs.Lowerings.{KeySoFar, key-start, key-goes, key-passed, property-written, classic-property}
+use Rattle.parts.proofs.Ends.{attributes_over}
+use Rattle.jsx.proofs.Turns.{Left, left_start, left_goes, left_ends, or_assoc, or_false}
+use Rattle.jsx.proofs.Lowerings.{KeySoFar, key_start, key_goes, key_passed, property_written, classic_property}
 
 -- `&t[n..]`
 abbrev pub part : ℕ → List ℕ → List ℕ
 part n t = take (length t - n) (drop n t)
 
-pub part-size : (n : ℕ) (t : List ℕ) → length (part n t) ≡ length t - n
-part-size n t = ap length (tail-part t n) ∙ length-drop n t
+pub part_size : (n : ℕ) (t : List ℕ) → length (part n t) ≡ length t - n
+part_size n t = ap length (tail_part t n) ∙ length-drop n t
 
 -- what reads n bytes behind the front reads the same in the part that is handed on
-pub in-part : {A : Type 0} (read : List ℕ → A) (n : ℕ) (t : List ℕ) {x : A} → read (drop n t) ≡ x → read (part n t) ≡ x
-in-part read n t e = ap read (tail-part t n) ∙ e
+pub in_part : {A : Type 0} (read : List ℕ → A) (n : ℕ) (t : List ℕ) {x : A} → read (drop n t) ≡ x → read (part n t) ≡ x
+in_part read n t e = ap read (tail_part t n) ∙ e
 
 pub noticed : {os : List Output} {ns ns' : List ℕ} {p p' : Pen} (cs : List ℕ) → Noticed os ns ns' p p' → Produced os cs cs ns ns' p p'
 noticed cs w a js s = w a js cs s
 
 -- ---- an attribute whose name is written: its value
 
-pub value-behind-written : (c : Context) (t : List ℕ) (n : ℕ) {cs cs' ns ns' : List ℕ} {p p' : Pen} {used : ℕ} → 1 ≤ n → n ≤ length t
+pub value_behind_written : (c : Context) (t : List ℕ) (n : ℕ) {cs cs' ns ns' : List ℕ} {p p' : Pen} {used : ℕ} → 1 ≤ n → n ≤ length t
     → ((f d : ℕ) (v : Value) (u : ℕ) → length (part n t) < f → value_at f c.text d (part n t) ≡ done v u
     → Written (lower_value c v) u cs cs' ns ns' p p' used)
     → (f d : ℕ) (v : Value) (u : ℕ) → length t ≤ f → value_at f c.text d (drop n t) ≡ done v u → Written (lower_value c v) (n + u) cs cs' ns ns' p p' (n + used)
-value-behind-written c t n one within W f d v u h e =
-    let w = W f d v u (omega (arith, part-size n t)) (in-part (λ (l : List ℕ). value_at f c.text d l) n t e) in
+value_behind_written c t n one within W f d v u h e =
+    let w = W f d v u (omega (arith, part_size n t)) (in_part (λ (l : List ℕ). value_at f c.text d l) n t e) in
     record { taken = ap (λ (q : ℕ). n + q) w.taken; wrote = w.wrote }
 
 -- ---- a plain attribute
@@ -65,92 +65,92 @@ abbrev pub Notice : Span → List ℕ → List ℕ → List ℕ → List ℕ →
 Notice s text t ns ns' p p' =
     (k : Context) → k.text ≡ text → (f d : ℕ) (v : Value) (u : ℕ) → value_at f text d t ≡ done v u → Noticed (key_notice k s v) ns ns' p p'
 
-pub plain-written : (c : Context) (t : List ℕ) (s : Span) {cs cs₁ cs₂ ns ns₁ ns₂ : List ℕ} {p p₁ p₂ p₃ : Pen} {used : ℕ} → length cs ≤ 2 ^ 63 → length ns ≤ 2 ^ 63
+pub plain_written : (c : Context) (t : List ℕ) (s : Span) {cs cs₁ cs₂ ns ns₁ ns₂ : List ℕ} {p p₁ p₂ p₃ : Pen} {used : ℕ} → length cs ≤ 2 ^ 63 → length ns ≤ 2 ^ 63
     → Notice s c.text (part 5 t) ns ns₁ p p₁ → ((k : Context) → k.text ≡ c.text → Called (attribute_name k s) cs cs₁ p₁ p₂)
     → ((f d : ℕ) (v : Value) (u : ℕ) → length t ≤ f → value_at f c.text d (drop 5 t) ≡ done v u → Written (lower_value c v) (5 + u) cs₁ cs₂ ns₁ ns₂ p₂ p₃ used)
     → (f d : ℕ) (v : Value) (u : ℕ) → length t ≤ f → value_at f c.text d (drop 5 t) ≡ done v u
     → Written (key_notice c s v ++ attribute_name c s ++ lower_value c v) (5 + u) cs cs₂ ns ns₂ p p₃ used
-plain-written c t s {cs} {ns₁ = ns₁} short short' N A W f d v u h e =
+plain_written c t s {cs} {ns₁ = ns₁} short short' N A W f d v u h e =
     let w = W f d v u h e in
     record {
       taken = w.taken;
       wrote =
           along short short'
-          (along short short' (noticed cs (N c refl f d v u (in-part (λ (l : List ℕ). value_at f c.text d l) 5 t e))) (called ns₁ (A c refl)))
+          (along short short' (noticed cs (N c refl f d v u (in_part (λ (l : List ℕ). value_at f c.text d l) 5 t e))) (called ns₁ (A c refl)))
           w.wrote;
     }
 
 -- ---- whether there is any output
 
-pub some-append : (os qs : List Output) → some_output (os ++ qs) ≡ (some_output os || some_output qs)
+pub some_append : (os qs : List Output) → some_output (os ++ qs) ≡ (some_output os || some_output qs)
 unfolding some_output
-some-append [] qs = refl
-some-append (o ∷ os) qs = refl
+some_append [] qs = refl
+some_append (o ∷ os) qs = refl
 
-some-behind : (os qs : List Output) → some_output os ≡ true → some_output (os ++ qs) ≡ true
+some_behind : (os qs : List Output) → some_output os ≡ true → some_output (os ++ qs) ≡ true
 unfolding some_output
-some-behind [] qs h = let z : ◌≡◌ {A = ℕ} 0 1 = cc in absurd (omega arith)
-some-behind (o ∷ os) qs h = refl
+some_behind [] qs h = let z : ◌≡◌ {A = ℕ} 0 1 = cc in absurd (omega arith)
+some_behind (o ∷ os) qs h = refl
 
-some-before : (os qs : List Output) → some_output qs ≡ true → some_output (os ++ qs) ≡ true
+some_before : (os qs : List Output) → some_output qs ≡ true → some_output (os ++ qs) ≡ true
 unfolding some_output
-some-before [] qs h = h
-some-before (o ∷ os) qs h = refl
+some_before [] qs h = h
+some_before (o ∷ os) qs h = refl
 
-some-named : (c : Context) (s : Span) → some_output (attribute_name c s) ≡ true
+some_named : (c : Context) (s : Span) → some_output (attribute_name c s) ≡ true
 unfolding some_output attribute_name
-some-named c s = go (is_found (find (eqb 0x2d) (part_of c.text s)))
+some_named c s = go (is_found (find (eqb 0x2d) (part_of c.text s)))
   where
     go : (b : Bool) → some_output (cond b (put call.string_name ++ quoted (piece s)) (put_span call.name s)) ≡ true
     go true = refl
     go false = refl
 
-some-plain : (c : Context) (s : Span) (v : Value) → true ≡ some_output (key_notice c s v ++ attribute_name c s ++ lower_value c v)
-some-plain c s v = sym (some-behind (key_notice c s v ++ attribute_name c s) (lower_value c v) (some-before (key_notice c s v) (attribute_name c s) (some-named c s)))
+some_plain : (c : Context) (s : Span) (v : Value) → true ≡ some_output (key_notice c s v ++ attribute_name c s ++ lower_value c v)
+some_plain c s v = sym (some_behind (key_notice c s v ++ attribute_name c s) (lower_value c v) (some_before (key_notice c s v) (attribute_name c s) (some_named c s)))
 
 -- ---- the step that an attribute at the front is
 
 module _ (c : Context) (classic : Bool) (d : ℕ) (t : List ℕ) {cs cs' ns ns' : List ℕ} {p : Pen} {f u : ℕ} {a : Attributes} (r : Props) where
   -- what was read by parts, the rest behind the bytes that are passed
-  goes-within : {B : Type 0} {inner : ℕ → List ℕ → Parsed B} {g : B → Attributes → Attributes} {m : ℕ}
+  goes_within : {B : Type 0} {inner : ℕ → List ℕ → Parsed B} {g : B → Attributes → Attributes} {m : ℕ}
       (W : Within inner (λ h l. attributes_at h c.text d l) t f a u m g) → r.last ≡ false → r.used ≡ m + W.took → (os : List Output)
       → lower_attributes c classic (g W.part W.rest) ≡ os ++ lower_attributes c classic W.rest → r.some ≡ some_output os
       → KeyFirst c d t r.key W.fuel (g W.part W.rest) W.rest → Produced os cs cs' ns ns' p r.pen
       → AttributeStep c classic d t cs cs' ns ns' p r f a u
-  goes-within {m = m} W l n os o s k w =
+  goes_within {m = m} W l n os o s k w =
       let out : lower_attributes c classic a ≡ os ++ lower_attributes c classic W.rest = ap (lower_attributes c classic) W.is ∙ o in
       goes l W.fuel W.turns W.rest W.size (ap (λ (q : ℕ). attributes_at W.fuel c.text d (drop q t)) n ∙ W.reads)
       (W.used ∙ ap (λ (q : ℕ). q + W.size) (sym n)) os out (
-        ap some_output out ∙ some-append os (lower_attributes c classic W.rest) ∙ ap (λ (b : Bool). b || some_output (lower_attributes c classic W.rest)) (sym s),
+        ap some_output out ∙ some_append os (lower_attributes c classic W.rest) ∙ ap (λ (b : Bool). b || some_output (lower_attributes c classic W.rest)) (sym s),
         subst (λ (x : Attributes). KeyFirst c d t r.key W.fuel x W.rest) (sym W.is) k,
       )
       w
 
-  goes-behind : {g : Attributes → Attributes} {m : ℕ} (W : Behind (λ h l. attributes_at h c.text d l) t f a u m g) → r.last ≡ false → r.used ≡ m → (os : List Output)
+  goes_behind : {g : Attributes → Attributes} {m : ℕ} (W : Behind (λ h l. attributes_at h c.text d l) t f a u m g) → r.last ≡ false → r.used ≡ m → (os : List Output)
       → lower_attributes c classic (g W.rest) ≡ os ++ lower_attributes c classic W.rest → r.some ≡ some_output os
       → KeyFirst c d t r.key W.fuel (g W.rest) W.rest → Produced os cs cs' ns ns' p r.pen
       → AttributeStep c classic d t cs cs' ns ns' p r f a u
-  goes-behind {m = m} W l n os o s k w =
+  goes_behind {m = m} W l n os o s k w =
       let out : lower_attributes c classic a ≡ os ++ lower_attributes c classic W.rest = ap (lower_attributes c classic) W.is ∙ o in
       goes l W.fuel W.turns W.rest W.size (ap (λ (q : ℕ). attributes_at W.fuel c.text d (drop q t)) n ∙ W.reads)
       (W.used ∙ ap (λ (q : ℕ). q + W.size) (sym n)) os out (
-        ap some_output out ∙ some-append os (lower_attributes c classic W.rest) ∙ ap (λ (b : Bool). b || some_output (lower_attributes c classic W.rest)) (sym s),
+        ap some_output out ∙ some_append os (lower_attributes c classic W.rest) ∙ ap (λ (b : Bool). b || some_output (lower_attributes c classic W.rest)) (sym s),
         subst (λ (x : Attributes). KeyFirst c d t r.key W.fuel x W.rest) (sym W.is) k,
       )
       w
 
 -- a key with a value, or none
 module _ (c : Context) (s : Span) (v : Value) (b : Attributes) (os : List Output) where
-  key-valued : (is_key c s && has_value v) ≡ true → lower_key c (attribute s v b) os ≡ lower_key c b (put call.key ++ lower_value c v)
+  key_valued : (is_key c s && has_value v) ≡ true → lower_key c (attribute s v b) os ≡ lower_key c b (put call.key ++ lower_value c v)
   unfolding lower_key
-  key-valued h = go (is_key c s && has_value v) h
+  key_valued h = go (is_key c s && has_value v) h
     where
       go : (x : Bool) → x ≡ true → lower_key c b (cond x (put call.key ++ lower_value c v) os) ≡ lower_key c b (put call.key ++ lower_value c v)
       go x h = rw h refl
 
-  key-unvalued : (is_key c s && has_value v) ≡ false → lower_key c (attribute s v b) os ≡ lower_key c b os
+  key_unvalued : (is_key c s && has_value v) ≡ false → lower_key c (attribute s v b) os ≡ lower_key c b os
   unfolding lower_key
-  key-unvalued h = go (is_key c s && has_value v) h
+  key_unvalued h = go (is_key c s && has_value v) h
     where
       go : (x : Bool) → x ≡ false → lower_key c b (cond x (put call.key ++ lower_value c v) os) ≡ lower_key c b os
       go x h = rw h refl
@@ -164,10 +164,19 @@ Valued c t s valued =
 abbrev pub Facts : ℕ → ℕ → ℕ → Props → Type 0
 Facts len n key r = (r.key ≡ key) × (r.some ≡ true) × (r.last ≡ false) × (n ≤ r.used) × (r.used ≤ len)
 
-pub passed-moves : (t : List ℕ) {p : Pen} {took : ℕ} (r : Props) → r ≡ record { pen = p; used = 5 + took; last = false; some = false; key = 5 } → 5 ≤ length t
+pub facts_moves : {len n key : ℕ} (r : Props) → Facts len n key r → 1 ≤ n → key ≤ n → Moves len r.used r.last × (r.key ≤ r.used)
+facts_moves r F one h = (record { inside = F.4; onward = λ l. omega (arith, F.3) }, omega (arith, F.0, F.3))
+
+pub passed_moves : (t : List ℕ) {p : Pen} {took : ℕ} (r : Props) → r ≡ record { pen = p; used = 5 + took; last = false; some = false; key = 5 } → 5 ≤ length t
     → took ≤ length (part 5 t) → Moves (length t) r.used r.last × (r.key ≤ r.used)
-passed-moves t {took = took} r e five h =
-    rw e (record { inside = omega (arith, part-size 5 t); onward = λ l. omega arith }, omega arith)
+passed_moves t {took = took} r e five h =
+    rw e (record { inside = omega (arith, part_size 5 t); onward = λ l. omega arith }, omega arith)
+
+pub literal_moves : {len : ℕ} (r : Props) → (r.key ≡ 0) × (r.last ≡ false) × (3 ≤ r.used) × (r.used ≤ len) → Moves len r.used r.last × (r.key ≤ r.used)
+literal_moves r F = (record { inside = F.3; onward = λ l. omega (arith, F.2) }, omega (arith, F.0))
+
+pub ended : {B : Type 0} → true ≡ false → B
+ended l = let z : ◌≡◌ {A = ℕ} 0 1 = cc in absurd (omega arith)
 
 abbrev pub PlainWritten : Context → List ℕ → Span → List ℕ → List ℕ → List ℕ → List ℕ → Pen → Props → Type 0
 PlainWritten c t s cs cs' ns ns' p r =
@@ -177,87 +186,87 @@ PlainWritten c t s cs cs' ns ns' p r =
 module _ (c : Context) (classic : Bool) (t : List ℕ) (s : Span) (front : attribute_command t ≡ attributes.Plain s) (valued : Bool) (K : Valued c t s valued)
     {cs cs' ns ns' : List ℕ} {p : Pen} (r : Props) where
   -- a key with a value in a classic call
-  pub plain-key : valued ≡ true → classic ≡ true → {len : ℕ} → Facts len 5 5 r → PlainWritten c t s cs cs' ns ns' p r
+  pub plain_key : valued ≡ true → classic ≡ true → {len : ℕ} → Facts len 5 5 r → PlainWritten c t s cs cs' ns ns' p r
       → (f d : ℕ) (a : Attributes) (u : ℕ) → length t < f → attributes_at f c.text d t ≡ done a u → AttributeStep c classic d t cs cs' ns ns' p r f a u
-  plain-key so cl F P f d a u h e =
-      let W = attributes-plain c.text t d f s front e in
-      let w = P W.fuel d W.part W.took (omega (arith, W.turns)) W.part-reads in
-      let is-key : (is_key c s && has_value W.part) ≡ true =
-      sym (K c refl W.fuel d W.part W.took (in-part (λ (l : List ℕ). value_at W.fuel c.text d l) 5 t W.part-reads)) ∙ so in
-      goes-within c classic d t r W F.2 w.taken (key_notice c s W.part ++ attribute_name c s ++ lower_value c W.part)
-      (classic-property c classic s W.part W.rest cl) (F.1 ∙ some-plain c s W.part)
-      (first W.part W.took (omega (arith, F.0)) (ap (λ (q : ℕ). value_at W.fuel c.text d (drop q t)) F.0 ∙ W.part-reads)
-      (λ os. key-valued c s W.part W.rest os is-key))
+  plain_key so cl F P f d a u h e =
+      let W = attributes_plain c.text t d f s front e in
+      let w = P W.fuel d W.part W.took (omega (arith, W.turns)) W.part_reads in
+      let valued_key : (is_key c s && has_value W.part) ≡ true =
+      sym (K c refl W.fuel d W.part W.took (in_part (λ (l : List ℕ). value_at W.fuel c.text d l) 5 t W.part_reads)) ∙ so in
+      goes_within c classic d t r W F.2 w.taken (key_notice c s W.part ++ attribute_name c s ++ lower_value c W.part)
+      (classic_property c classic s W.part W.rest cl) (F.1 ∙ some_plain c s W.part)
+      (first W.part W.took (omega (arith, F.0)) (ap (λ (q : ℕ). value_at W.fuel c.text d (drop q t)) F.0 ∙ W.part_reads)
+      (λ os. key_valued c s W.part W.rest os valued_key))
       w.wrote
 
   -- no key with a value
-  pub plain-property : valued ≡ false → {len : ℕ} → Facts len 5 0 r → PlainWritten c t s cs cs' ns ns' p r
+  pub plain_property : valued ≡ false → {len : ℕ} → Facts len 5 0 r → PlainWritten c t s cs cs' ns ns' p r
       → (f d : ℕ) (a : Attributes) (u : ℕ) → length t < f → attributes_at f c.text d t ≡ done a u → AttributeStep c classic d t cs cs' ns ns' p r f a u
-  plain-property so F P f d a u h e =
-      let W = attributes-plain c.text t d f s front e in
-      let w = P W.fuel d W.part W.took (omega (arith, W.turns)) W.part-reads in
-      let un-key : (is_key c s && has_value W.part) ≡ false =
-      sym (K c refl W.fuel d W.part W.took (in-part (λ (l : List ℕ). value_at W.fuel c.text d l) 5 t W.part-reads)) ∙ so in
-      goes-within c classic d t r W F.2 w.taken (key_notice c s W.part ++ attribute_name c s ++ lower_value c W.part)
-      (property-written c classic s W.part W.rest un-key) (F.1 ∙ some-plain c s W.part) (other F.0 (λ os. key-unvalued c s W.part W.rest os un-key))
+  plain_property so F P f d a u h e =
+      let W = attributes_plain c.text t d f s front e in
+      let w = P W.fuel d W.part W.took (omega (arith, W.turns)) W.part_reads in
+      let un_key : (is_key c s && has_value W.part) ≡ false =
+      sym (K c refl W.fuel d W.part W.took (in_part (λ (l : List ℕ). value_at W.fuel c.text d l) 5 t W.part_reads)) ∙ so in
+      goes_within c classic d t r W F.2 w.taken (key_notice c s W.part ++ attribute_name c s ++ lower_value c W.part)
+      (property_written c classic s W.part W.rest un_key) (F.1 ∙ some_plain c s W.part) (other F.0 (λ os. key_unvalued c s W.part W.rest os un_key))
       w.wrote
 
 module _ (c : Context) (classic : Bool) (t : List ℕ) (s : Span) (front : attribute_command t ≡ attributes.Plain s) (valued : Bool) (K : Valued c t s valued)
     {cs ns : List ℕ} {p : Pen} {took : ℕ} (r : Props) (is : r ≡ record { pen = p; used = 5 + took; last = false; some = false; key = 5 }) where
   -- a key with a value in an automatic call is no property
-  pub plain-passed : valued ≡ true → classic ≡ false → 5 ≤ length t
+  pub plain_passed : valued ≡ true → classic ≡ false → 5 ≤ length t
       → ((f : ℕ) (text : List ℕ) (d : ℕ) (v : Value) (u : ℕ) → length (part 5 t) < f → value_at f text d (part 5 t) ≡ done v u → took ≡ u)
       → (f d : ℕ) (a : Attributes) (u : ℕ) → length t < f → attributes_at f c.text d t ≡ done a u → AttributeStep c classic d t cs cs ns ns p r f a u
   unfolding some_output
-  plain-passed so cl five S f d a u h e =
-      let W = attributes-plain c.text t d f s front e in
-      let reads : value_at W.fuel c.text d (part 5 t) ≡ done W.part W.took = in-part (λ (l : List ℕ). value_at W.fuel c.text d l) 5 t W.part-reads in
-      let is-key : (is_key c s && has_value W.part) ≡ true = sym (K c refl W.fuel d W.part W.took reads) ∙ so in
-      let n : took ≡ W.took = S W.fuel c.text d W.part W.took (omega (arith, W.turns, part-size 5 t)) reads in
+  plain_passed so cl five S f d a u h e =
+      let W = attributes_plain c.text t d f s front e in
+      let reads : value_at W.fuel c.text d (part 5 t) ≡ done W.part W.took = in_part (λ (l : List ℕ). value_at W.fuel c.text d l) 5 t W.part_reads in
+      let valued_key : (is_key c s && has_value W.part) ≡ true = sym (K c refl W.fuel d W.part W.took reads) ∙ so in
+      let n : took ≡ W.took = S W.fuel c.text d W.part W.took (omega (arith, W.turns, part_size 5 t)) reads in
       let step : AttributeStep c classic d t cs cs ns ns p (record { pen = p; used = 5 + took; last = false; some = false; key = 5 }) f a u =
-      goes-within c classic d t (record { pen = p; used = 5 + took; last = false; some = false; key = 5 }) W refl (ap (λ (q : ℕ). 5 + q) n) []
-      (key-passed c classic s W.part W.rest is-key cl) refl
-      (first W.part W.took (omega arith) W.part-reads (λ os. key-valued c s W.part W.rest os is-key))
+      goes_within c classic d t (record { pen = p; used = 5 + took; last = false; some = false; key = 5 }) W refl (ap (λ (q : ℕ). 5 + q) n) []
+      (key_passed c classic s W.part W.rest valued_key cl) refl
+      (first W.part W.took (omega arith) W.part_reads (λ os. key_valued c s W.part W.rest os valued_key))
       (none cs ns p) in
       subst (λ (q : Props). AttributeStep c classic d t cs cs ns ns p q f a u) (sym is) step
 
 module _ (c : Context) (classic : Bool) (t : List ℕ) where
-  pub namespaced-step : (s z : Span) → attribute_command t ≡ attributes.Namespaced s z → {cs cs₁ cs₂ cs₃ ns ns' : List ℕ} {p p₁ p₂ : Pen} → length cs ≤ 2 ^ 63
+  pub namespaced_step : (s z : Span) → attribute_command t ≡ attributes.Namespaced s z → {cs cs₁ cs₂ cs₃ ns ns' : List ℕ} {p p₁ p₂ : Pen} → length cs ≤ 2 ^ 63
       → length ns ≤ 2 ^ 63 → Called (put call.string_name) cs cs₁ p p₁ → Called (colonized s z) cs₁ cs₂ p₁ p₂ → (r : Props) {len : ℕ} → Facts len 9 0 r
       → ((f d : ℕ) (v : Value) (u : ℕ) → length t ≤ f → value_at f c.text d (drop 9 t) ≡ done v u
       → Written (lower_value c v) (9 + u) cs₂ cs₃ ns ns' p₂ r.pen r.used)
       → (f d : ℕ) (a : Attributes) (u : ℕ) → length t < f → attributes_at f c.text d t ≡ done a u → AttributeStep c classic d t cs cs₃ ns ns' p r f a u
   unfolding lower_attributes lower_key some_output
-  namespaced-step s z front {ns = ns} short short' N C r F P f d a u h e =
-      let W = attributes-namespaced c.text t d f s z front e in
-      let w = P W.fuel d W.part W.took (omega (arith, W.turns)) W.part-reads in
-      goes-within c classic d t r W F.2 w.taken (put call.string_name ++ colonized s z ++ lower_value c W.part) refl F.1 (other F.0 (λ os. refl))
+  namespaced_step s z front {ns = ns} short short' N C r F P f d a u h e =
+      let W = attributes_namespaced c.text t d f s z front e in
+      let w = P W.fuel d W.part W.took (omega (arith, W.turns)) W.part_reads in
+      goes_within c classic d t r W F.2 w.taken (put call.string_name ++ colonized s z ++ lower_value c W.part) refl F.1 (other F.0 (λ os. refl))
       (along short short' (along short short' (called ns N) (called ns C)) w.wrote)
 
-  pub spread-step : (x : ℕ) → attribute_command t ≡ attributes.Spread x → {cs cs' ns : List ℕ} {p : Pen} (q : Pen) → Called (put_over call.spread_property x) cs cs' p q
+  pub spread_step : (x : ℕ) → attribute_command t ≡ attributes.Spread x → {cs cs' ns : List ℕ} {p : Pen} (q : Pen) → Called (put_over call.spread_property x) cs cs' p q
       → (f d : ℕ) (a : Attributes) (u : ℕ) → length t < f → attributes_at f c.text d t ≡ done a u
       → AttributeStep c classic d t cs cs' ns ns p (record { pen = q; used = 3; last = false; some = true; key = 0 }) f a u
   unfolding lower_attributes lower_key some_output
-  spread-step x front {ns = ns} q w f d a u h e =
-      let W = attributes-spread c.text t d f x front e in
-      goes-behind c classic d t (record { pen = q; used = 3; last = false; some = true; key = 0 }) W refl refl (put_over call.spread_property x) refl refl
+  spread_step x front {ns = ns} q w f d a u h e =
+      let W = attributes_spread c.text t d f x front e in
+      goes_behind c classic d t (record { pen = q; used = 3; last = false; some = true; key = 0 }) W refl refl (put_over call.spread_property x) refl refl
       (other refl (λ os. refl)) (called ns w)
 
-  pub literal-step : (x : ℕ) → attribute_command t ≡ attributes.Literal x → {cs cs' ns : List ℕ} {p : Pen} (r : Props) → r.key ≡ 0 → r.last ≡ false
+  pub literal_step : (x : ℕ) → attribute_command t ≡ attributes.Literal x → {cs cs' ns : List ℕ} {p : Pen} (r : Props) → r.key ≡ 0 → r.last ≡ false
       → ((k : Context) → k.text ≡ c.text → (f : ℕ) (ps : List Property) (u : ℕ) → length t ≤ f → properties_at f c.text (drop 3 t) ≡ done ps u
       → LiteralWritten (lower_literal k x ps) (3 + u) cs cs' p r)
       → (f d : ℕ) (a : Attributes) (u : ℕ) → length t < f → attributes_at f c.text d t ≡ done a u → AttributeStep c classic d t cs cs' ns ns p r f a u
   unfolding lower_attributes lower_key
-  literal-step x front {ns = ns} r k l L f d a u h e =
-      let W = attributes-literal c.text t d f x front e in
-      let w = L c refl W.fuel W.part W.took (omega (arith, W.turns)) W.part-reads in
-      goes-within c classic d t r W l w.taken (lower_literal c x W.part) refl w.flagged (other k (λ os. refl)) (called ns w.wrote)
+  literal_step x front {ns = ns} r k l L f d a u h e =
+      let W = attributes_literal c.text t d f x front e in
+      let w = L c refl W.fuel W.part W.took (omega (arith, W.turns)) W.part_reads in
+      goes_within c classic d t r W l w.taken (lower_literal c x W.part) refl w.flagged (other k (λ os. refl)) (called ns w.wrote)
 
   pub end_step : attribute_command t ≡ attributes.End → {cs ns : List ℕ} (p : Pen) → (f d : ℕ) (a : Attributes) (u : ℕ) → length t < f → attributes_at f c.text d t ≡ done a u
       → AttributeStep c classic d t cs cs ns ns p (record { pen = p; used = 1; last = true; some = false; key = 0 }) f a u
   unfolding lower_attributes lower_key some_output
   end_step front {cs} {ns} p f d a u h e =
-      let W = attributes-end c.text t d f front e in
+      let W = attributes_end c.text t d f front e in
       let out : lower_attributes c classic a ≡ [] = ap (lower_attributes c classic) W.0 in
       ends refl W.1 out (ap some_output out, refl, λ os. ap (λ (b : Attributes). lower_key c b os) W.0) (none cs ns p)
 
@@ -272,13 +281,13 @@ abbrev pub AttributesLeft : Context → Bool → ℕ → List ℕ → Attributes
 AttributesLeft c classic d t a u cs₀ cs ns₀ ns p₀ p i some key =
     Left (λ g l. attributes_at g c.text d l) (lower_attributes c classic) (Gathered c classic d t a some key) t a u cs₀ cs ns₀ ns p₀ p i
 
-pub left-begin : (c : Context) (classic : Bool) (t cs ns : List ℕ) (p : Pen) (f d : ℕ) (a : Attributes) (u : ℕ) → length t < f → attributes_at f c.text d t ≡ done a u
+pub left_begin : (c : Context) (classic : Bool) (t cs ns : List ℕ) (p : Pen) (f d : ℕ) (a : Attributes) (u : ℕ) → length t < f → attributes_at f c.text d t ≡ done a u
     → AttributesLeft c classic d t a u cs cs ns ns p p 0 false 0
-left-begin c classic t cs ns p f d a u h e =
-    left-start (λ g l. attributes_at g c.text d l) (lower_attributes c classic) t f a u cs ns p h e (record { flags = refl; keys = λ given. key-start c d t a given })
+left_begin c classic t cs ns p f d a u h e =
+    left_start (λ g l. attributes_at g c.text d l) (lower_attributes c classic) t f a u cs ns p h e (record { flags = refl; keys = λ given. key_start c d t a given })
 
-pub key-within : (len i key k used now : ℕ) → i ≤ len → key ≤ len → k ≤ used → used ≤ len - i → now ≡ cond (eqb k 0) key (i + k) → now ≤ len
-key-within len i key k used now within kept h n e = rw e (go (eqb k 0))
+pub key_within : (len i key k used now : ℕ) → i ≤ len → key ≤ len → k ≤ used → used ≤ len - i → now ≡ cond (eqb k 0) key (i + k) → now ≤ len
+key_within len i key k used now within kept h n e = rw e (go (eqb k 0))
   where
     go : (b : Bool) → cond b key (i + k) ≤ len
     go true = kept
@@ -288,22 +297,22 @@ module _ (c : Context) (classic : Bool) (t : List ℕ) {cs₀ cs cs₁ ns₀ ns 
     (short : length cs₀ ≤ 2 ^ 63) (short' : length ns₀ ≤ 2 ^ 63)
     (step : (f d : ℕ) (a : Attributes) (u : ℕ) → length (part i t) < f → attributes_at f c.text d (part i t) ≡ done a u
     → AttributeStep c classic d (part i t) cs cs₁ ns ns₁ p r f a u) (newer : now ≡ cond (eqb r.key 0) key (i + r.key)) where
-  pub left-more : (d : ℕ) (a : Attributes) (u : ℕ) → AttributesLeft c classic d t a u cs₀ cs ns₀ ns p₀ p i some key → r.last ≡ false → 1 ≤ r.used
+  pub left_more : (d : ℕ) (a : Attributes) (u : ℕ) → AttributesLeft c classic d t a u cs₀ cs ns₀ ns p₀ p i some key → r.last ≡ false → 1 ≤ r.used
       → AttributesLeft c classic d t a u cs₀ cs₁ ns₀ ns₁ p₀ r.pen (i + r.used) (some || r.some) now
-  left-more d a u R l pos =
-      left-goes (λ g l. attributes_at g c.text d l) (lower_attributes c classic) t (part i t) (tail-part t i) within (λ f a u. step f d a u) short short' R l pos keep
+  left_more d a u R l pos =
+      left_goes (λ g l. attributes_at g c.text d l) (lower_attributes c classic) t (part i t) (tail_part t i) within (λ f a u. step f d a u) short short' R l pos keep
     where
       keep : (f : ℕ) (y z : Attributes) → length t < i + suc f → AttributesGo c classic d r (drop i t) f y z → Gathered c classic d t a some key y
           → Gathered c classic d t a (some || r.some) now z
       keep f y z enough G S = record {
         flags = S.flags ∙ ap (λ (b : Bool). some || b) G.0 ∙ or_assoc some r.some (some_output (lower_attributes c classic z));
-        keys = λ given. rw newer (key-goes c d t a given i key r.key f y z enough G.1 (S.keys given));
+        keys = λ given. rw newer (key_goes c d t a given i key r.key f y z enough G.1 (S.keys given));
       }
 
-  pub left-done : (d : ℕ) (a : Attributes) (u : ℕ) → AttributesLeft c classic d t a u cs₀ cs ns₀ ns p₀ p i some key → r.last ≡ true
+  pub left_done : (d : ℕ) (a : Attributes) (u : ℕ) → AttributesLeft c classic d t a u cs₀ cs ns₀ ns p₀ p i some key → r.last ≡ true
       → AttributesWritten c classic d t a u cs₀ cs₁ ns₀ ns₁ p₀ (record { pen = r.pen; used = i + r.used; last = true; some = some || r.some; key = now })
-  left-done d a u R l =
-      let W = left-ends (λ g l. attributes_at g c.text d l) (lower_attributes c classic) t (part i t) (tail-part t i) within (λ f a u. step f d a u) short short' R l keep in
+  left_done d a u R l =
+      let W = left_ends (λ g l. attributes_at g c.text d l) (lower_attributes c classic) t (part i t) (tail_part t i) within (λ f a u. step f d a u) short short' R l keep in
       record { taken = sym W.0; flagged = W.2.0; keyed = W.2.1; wrote = W.1 }
     where
       keep : (y : Attributes) → AttributesEnd c classic r y → Gathered c classic d t a some key y
@@ -321,22 +330,22 @@ pub left_over : (c : Context) (classic : Bool) (t : List ℕ) {cs₀ cs ns₀ ns
     → AttributesLeft c classic d t a u cs₀ cs ns₀ ns p₀ p i some key
     → AttributesWritten c classic d t a u cs₀ cs ns₀ ns p₀ (record { pen = p; used = i + 1; last = true; some = some; key = key })
 left_over c classic t {cs₀} {cs} {ns₀} {ns} {p₀} {p} {i} {some} {key} within short short' over d a u R =
-    subst (λ (b : Bool). AttributesWritten c classic d t a u cs₀ cs ns₀ ns p₀ (record { pen = p; used = i + 1; last = true; some = b; key = key })) (or-false some)
-    (left-done c classic t {now = key} (record { pen = p; used = 1; last = true; some = false; key = 0 }) within short short'
-    (λ f d a u h e. end_step c classic (part i t) (attributes-over (part i t) over) p f d a u h e) refl d a u R refl)
+    subst (λ (b : Bool). AttributesWritten c classic d t a u cs₀ cs ns₀ ns p₀ (record { pen = p; used = i + 1; last = true; some = b; key = key })) (or_false some)
+    (left_done c classic t {now = key} (record { pen = p; used = 1; last = true; some = false; key = 0 }) within short short'
+    (λ f d a u h e. end_step c classic (part i t) (attributes_over (part i t) over) p f d a u h e) refl d a u R refl)
 
 -- ---- the value of the last key
 
-pub key-none : {c : Context} {t cs cs' ns : List ℕ} {p p' : Pen} (key : ℕ) → key ≡ 0 → Called (no_key c) cs cs' p p' → (d : ℕ) (os : List Output)
+pub key_none : {c : Context} {t cs cs' ns : List ℕ} {p p' : Pen} (key : ℕ) → key ≡ 0 → Called (no_key c) cs cs' p p' → (d : ℕ) (os : List Output)
     → KeyAt c d t (no_key c) key os → Produced os cs cs' ns ns p p'
-key-none {ns = ns} key z w d os no-key = called ns w
-key-none key z w d os (key-at q g u v enough one reads) = absurd (omega arith)
+key_none {ns = ns} key z w d os without_key = called ns w
+key_none key z w d os (key_at q g u v enough one reads) = absurd (omega arith)
 
-pub key-some : {c : Context} {t cs cs₁ cs₂ ns ns₁ : List ℕ} {p p₁ p₂ : Pen} {used : ℕ} (key : ℕ) → key ≤ length t → length cs ≤ 2 ^ 63 → length ns ≤ 2 ^ 63 → (key ≡ 0 → ⊥)
+pub key_some : {c : Context} {t cs cs₁ cs₂ ns ns₁ : List ℕ} {p p₁ p₂ : Pen} {used : ℕ} (key : ℕ) → key ≤ length t → length cs ≤ 2 ^ 63 → length ns ≤ 2 ^ 63 → (key ≡ 0 → ⊥)
     → Called (put call.key) cs cs₁ p p₁
     → ((f d : ℕ) (v : Value) (u : ℕ) → length (part key t) < f → value_at f c.text d (part key t) ≡ done v u → Written (lower_value c v) u cs₁ cs₂ ns ns₁ p₁ p₂ used)
     → (d : ℕ) (os : List Output) → KeyAt c d t (no_key c) key os → Produced os cs cs₂ ns ns₁ p p₂
-key-some key within short short' z w W d os no-key = absurd (z refl)
-key-some {c} {t} {ns = ns} key within short short' z w W d os (key-at q g u v enough one reads) =
+key_some key within short short' z w W d os without_key = absurd (z refl)
+key_some {c} {t} {ns = ns} key within short short' z w W d os (key_at q g u v enough one reads) =
     along short short' (called ns w)
-    (W g d v u (omega (arith, part-size q t)) (in-part (λ (l : List ℕ). value_at g c.text d l) key t reads)).wrote
+    (W g d v u (omega (arith, part_size q t)) (in_part (λ (l : List ℕ). value_at g c.text d l) key t reads)).wrote

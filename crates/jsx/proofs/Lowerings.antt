@@ -23,52 +23,52 @@ use Rattle.definitions.specs.Store.{create_element}
 use Rattle.pen.specs.declared.pen.Pen.{Pen}
 use Rattle.pen.specs.Emitting.{Called, Produced}
 use Rattle.parts.specs.Promises.{some_output}
-use Rattle.jsx.specs.Parts.{Written, KeyFirst, other, first, KeyAt, no-key, key-at, children_object, Step, ends, goes, classic_call_of, automatic_element, classic_properties, classic_fragment, automatic_fragment}
-use Rattle.parts.proofs.Inversions.{Behind, value-absent, value-empty, value-expression, value-text}
+use Rattle.jsx.specs.Parts.{Written, KeyFirst, other, first, KeyAt, without_key, key_at, children_object, Step, ends, goes, classic_call_of, automatic_element, classic_properties, classic_fragment, automatic_fragment}
+use Rattle.parts.proofs.Inversions.{Behind, value_absent, value_empty, value_expression, value_text}
 use Rattle.jsx.proofs.Writing.{along, called, being}
 
 -- ---- values
 
 module _ (c : Context) (text t : List ℕ) (f d : ℕ) (v : Value) (u : ℕ) (e : value_at f text d t ≡ done v u) {cs cs' : List ℕ} {p p' : Pen} (ns : List ℕ) where
-  pub absent-written : value_command t ≡ values.Absent → Called (put call.literal_true) cs cs' p p' → Written (lower_value c v) u cs cs' ns ns p p' 1
+  pub absent_written : value_command t ≡ values.Absent → Called (put call.literal_true) cs cs' p p' → Written (lower_value c v) u cs cs' ns ns p p' 1
   unfolding lower_value
-  absent-written k w =
-      let r = value-absent text t d f k e in
+  absent_written k w =
+      let r = value_absent text t d f k e in
       record { taken = sym r.1; wrote = being (sym (ap (lower_value c) r.0)) (called ns w) }
 
-  pub empty-written : value_command t ≡ values.Empty → Called (put call.literal_true) cs cs' p p' → Written (lower_value c v) u cs cs' ns ns p p' 1
+  pub empty_written : value_command t ≡ values.Empty → Called (put call.literal_true) cs cs' p p' → Written (lower_value c v) u cs cs' ns ns p p' 1
   unfolding lower_value
-  empty-written k w =
-      let r = value-empty text t d f k e in
+  empty_written k w =
+      let r = value_empty text t d f k e in
       record { taken = sym r.1; wrote = being (sym (ap (lower_value c) r.0)) (called ns w) }
 
-  pub text-written : (s : Span) → value_command t ≡ values.Text s → Called (quoted (piece s)) cs cs' p p' → Written (lower_value c v) u cs cs' ns ns p p' 5
+  pub text_written : (s : Span) → value_command t ≡ values.Text s → Called (quoted (piece s)) cs cs' p p' → Written (lower_value c v) u cs cs' ns ns p p' 5
   unfolding lower_value
-  text-written s k w =
-      let r = value-text text t d f s k e in
+  text_written s k w =
+      let r = value_text text t d f s k e in
       record { taken = sym r.1; wrote = being (sym (ap (lower_value c) r.0)) (called ns w) }
 
-  pub expression-written : (x : ℕ) → value_command t ≡ values.Expression x → Called (put_over call.expression x) cs cs' p p'
+  pub expression_written : (x : ℕ) → value_command t ≡ values.Expression x → Called (put_over call.expression x) cs cs' p p'
       → Written (lower_value c v) u cs cs' ns ns p p' 3
   unfolding lower_value
-  expression-written x k w =
-      let r = value-expression text t d f x k e in
+  expression_written x k w =
+      let r = value_expression text t d f x k e in
       record { taken = sym r.1; wrote = being (sym (ap (lower_value c) r.0)) (called ns w) }
 
 -- an element or a fragment, behind its command of nine bytes
-pub node-written : (c : Context) {v : Value} {n : Node} {u took used : ℕ} {cs cs' ns ns' : List ℕ} {p p' : Pen} → v ≡ node_value n → u ≡ 9 + took
+pub node_written : (c : Context) {v : Value} {n : Node} {u took used : ℕ} {cs cs' ns ns' : List ℕ} {p p' : Pen} → v ≡ node_value n → u ≡ 9 + took
     → Written (lower_node c n) took cs cs' ns ns' p p' used → Written (lower_value c v) u cs cs' ns ns' p p' (9 + used)
 unfolding lower_value
-node-written c i h w = record { taken = ap (λ (q : ℕ). 9 + q) w.taken ∙ sym h; wrote = being (sym (ap (lower_value c) i)) w.wrote }
+node_written c i h w = record { taken = ap (λ (q : ℕ). 9 + q) w.taken ∙ sym h; wrote = being (sym (ap (lower_value c) i)) w.wrote }
 
 -- ---- one of a list
 
 module _ {A : Type 0} (read : ℕ → List ℕ → Parsed A) (out : A → List Output) (Ends : A → Type 0) (Goes : List ℕ → ℕ → A → A → Type 0) (t : List ℕ)
     {cs cs' ns ns' : List ℕ} {p p' : Pen} {f u : ℕ} {x : A} where
   -- it goes on behind n bytes: the list is g of the rest
-  pub step-on : {n : ℕ} {g : A → A} (B : Behind read t f x u n g) (os : List Output) → out (g B.rest) ≡ os ++ out B.rest
+  pub step_on : {n : ℕ} {g : A → A} (B : Behind read t f x u n g) (os : List Output) → out (g B.rest) ≡ os ++ out B.rest
       → Goes t B.fuel (g B.rest) B.rest → Produced os cs cs' ns ns' p p' → Step read out Ends Goes t cs cs' ns ns' p p' n false f x u
-  step-on {n} {g} B os h m w =
+  step_on {n} {g} B os h m w =
       goes refl B.fuel B.turns B.rest B.size B.reads B.used os (ap out B.is ∙ h)
       (subst (λ (y : A). Goes t B.fuel y B.rest) (sym B.is) m) w
 
@@ -80,24 +80,24 @@ module _ {A : Type 0} (read : ℕ → List ℕ → Parsed A) (out : A → List O
 
 -- the end of a call: its tag, its callee and whether it is pure
 module _ (c : Context) {cs₀ ns₀ : List ℕ} (short : length cs₀ ≤ 2 ^ 63) (short' : length ns₀ ≤ 2 ^ 63) where
-  pub closing-written : (n : ℕ) {front tag : List Output} {cs₁ cs₂ cs₃ cs₄ ns₁ ns₂ : List ℕ} {p₀ p₁ p₂ p₃ p₄ : Pen}
+  pub closing_written : (n : ℕ) {front tag : List Output} {cs₁ cs₂ cs₃ cs₄ ns₁ ns₂ : List ℕ} {p₀ p₁ p₂ p₃ p₄ : Pen}
       → Produced front cs₀ cs₁ ns₀ ns₁ p₀ p₁ → Called (put call.tag) cs₁ cs₂ p₁ p₂ → Produced tag cs₂ cs₃ ns₁ ns₂ p₂ p₃
       → Called (put call.callee ++ callee_named c.settings.mode n ++ put_byte call.call_end (pure_byte c.settings.pure)) cs₃ cs₄ p₃ p₄
       → Produced (front ++ closing c tag n) cs₀ cs₄ ns₀ ns₂ p₀ p₄
-  closing-written n {front} {tag} {ns₁ = ns₁} {ns₂} v t w z =
+  closing_written n {front} {tag} {ns₁ = ns₁} {ns₂} v t w z =
       being (simp append_assoc) (along short short' (along short short' (along short short' v (called ns₁ t)) w) (called ns₂ z))
 
   -- a classic call
-  pub classic-written : {argument items tag : List Output} {cs₁ cs₂ cs₃ cs₄ cs₅ cs₆ ns₁ ns₂ ns₃ : List ℕ} {p₀ p₁ p₂ p₃ p₄ p₅ p₆ : Pen}
+  pub classic_written : {argument items tag : List Output} {cs₁ cs₂ cs₃ cs₄ cs₅ cs₆ ns₁ ns₂ ns₃ : List ℕ} {p₀ p₁ p₂ p₃ p₄ p₅ p₆ : Pen}
       → Called (put_byte call.call 0) cs₀ cs₁ p₀ p₁ → Produced argument cs₁ cs₂ ns₀ ns₁ p₁ p₂ → Produced items cs₂ cs₃ ns₁ ns₂ p₂ p₃
       → Called (put call.tag) cs₃ cs₄ p₃ p₄ → Produced tag cs₄ cs₅ ns₂ ns₃ p₄ p₅
       → Called (put call.callee ++ callee_named c.settings.mode create_element ++ put_byte call.call_end (pure_byte c.settings.pure)) cs₅ cs₆ p₅ p₆
       → Produced (classic_call c argument items tag) cs₀ cs₆ ns₀ ns₃ p₀ p₆
   unfolding classic_call
-  classic-written b a i t w z = closing-written create_element (along short short' (along short short' (called ns₀ b) a) i) t w z
+  classic_written b a i t w z = closing_written create_element (along short short' (along short short' (called ns₀ b) a) i) t w z
 
   -- an automatic call
-  pub automatic-written : (k : Children) {properties key added tag : List Output} {cs₁ cs₂ cs₃ cs₄ cs₅ cs₆ cs₇ cs₈ cs₉ cs₁₀ ns₁ ns₂ ns₃ ns₄ ns₅ : List ℕ}
+  pub automatic_written : (k : Children) {properties key added tag : List Output} {cs₁ cs₂ cs₃ cs₄ cs₅ cs₆ cs₇ cs₈ cs₉ cs₁₀ ns₁ ns₂ ns₃ ns₄ ns₅ : List ℕ}
       {p₀ p₁ p₂ p₃ p₄ p₅ p₆ p₇ p₈ p₉ p₁₀ : Pen}
       → Called (put_byte call.call 1) cs₀ cs₁ p₀ p₁ → Called (put call.object_begin) cs₁ cs₂ p₁ p₂ → Produced properties cs₂ cs₃ ns₀ ns₁ p₂ p₃
       → Produced (children_object c k) cs₃ cs₄ ns₁ ns₂ p₃ p₄ → Produced key cs₄ cs₅ ns₂ ns₃ p₄ p₅ → Called (static_children c (survivors c k)) cs₅ cs₆ p₅ p₆
@@ -106,12 +106,12 @@ module _ (c : Context) {cs₀ ns₀ : List ℕ} (short : length cs₀ ≤ 2 ^ 63
       cs₉ cs₁₀ p₉ p₁₀
       → Produced (automatic_call c properties k (lower_children c k) key added tag) cs₀ cs₁₀ ns₀ ns₅ p₀ p₁₀
   unfolding automatic_call children_object
-  automatic-written k {properties} {key} {added} {tag} {cs₃ = cs₃} {cs₄} {ns₁ = ns₁} {ns₂} {ns₃} {p₃ = p₃} {p₄} b o ps ks q st ad t w z =
+  automatic_written k {properties} {key} {added} {tag} {cs₃ = cs₃} {cs₄} {ns₁ = ns₁} {ns₂} {ns₃} {p₃ = p₃} {p₄} b o ps ks q st ad t w z =
       let inside : Produced (children_property (survivors c k) (form_of (survivors c k) (has_spread k)) (lower_children c k) ++ put call.object_end) cs₃ cs₄ ns₁ ns₂ p₃ p₄ =
       ks in
       let front = (put_byte call.call 1 ++ put call.object_begin) ++ properties in
       let items = children_property (survivors c k) (form_of (survivors c k) (has_spread k)) (lower_children c k) in
-      closing-written (automatic_name c (survivors c k))
+      closing_written (automatic_name c (survivors c k))
       (along short short'
       (along short short'
       (along short short'
@@ -123,59 +123,59 @@ module _ (c : Context) {cs₀ ns₀ : List ℕ} (short : length cs₀ ≤ 2 ^ 63
 
 -- ---- children
 
-pub no-survivors : (c : Context) (k : Children) → survivors c k ≡ 0 → lower_children c k ≡ []
+pub no_survivors : (c : Context) (k : Children) → survivors c k ≡ 0 → lower_children c k ≡ []
 unfolding survivors lower_children some_line lower_text
-no-survivors c no_children h = refl
-no-survivors c (text_child s k) h = go (jsx_text c.text s) h (λ i. no-survivors c k i)
+no_survivors c no_children h = refl
+no_survivors c (text_child s k) h = go (jsx_text c.text s) h (λ i. no_survivors c k i)
   where
     go : (ls : List Span) → some_line ls + survivors c k ≡ 0 → (survivors c k ≡ 0 → lower_children c k ≡ []) → lower_text ls ++ lower_children c k ≡ []
     go [] h i = i (omega arith)
     go (l ∷ ls) h i = absurd (omega arith)
-no-survivors c (expression_child e k) h = absurd (omega arith)
-no-survivors c (empty_child k) h = no-survivors c k h
-no-survivors c (spread_child e k) h = absurd (omega arith)
-no-survivors c (node_child n k) h = absurd (omega arith)
+no_survivors c (expression_child e k) h = absurd (omega arith)
+no_survivors c (empty_child k) h = no_survivors c k h
+no_survivors c (spread_child e k) h = absurd (omega arith)
+no_survivors c (node_child n k) h = absurd (omega arith)
 
-pub children-none : (c : Context) (k : Children) → survivors c k ≡ 0 → children_object c k ≡ put call.object_end
+pub children_none : (c : Context) (k : Children) → survivors c k ≡ 0 → children_object c k ≡ put call.object_end
 unfolding children_object children_property
-children-none c k h = rw (eq-eqb (survivors c k) 0 h) refl
+children_none c k h = rw (eq-eqb (survivors c k) 0 h) refl
 
-pub children-some : (c : Context) (k : Children) → (survivors c k ≡ 0 → ⊥)
+pub children_some : (c : Context) (k : Children) → (survivors c k ≡ 0 → ⊥)
     → children_object c k
     ≡ ((put call.children_begin ++ lower_children c k) ++ put_byte call.children_end (form_of (survivors c k) (has_spread k))) ++ put call.object_end
 unfolding children_object children_property
-children-some c k h = rw (ne_eqb (survivors c k) 0 h) refl
+children_some c k h = rw (ne_eqb (survivors c k) 0 h) refl
 
 -- ---- the object of a classic call
 
-pub object-null : (os : List Output) → some_output os ≡ false → (os ≡ []) × (object_of os ≡ put call.null)
+pub object_null : (os : List Output) → some_output os ≡ false → (os ≡ []) × (object_of os ≡ put call.null)
 unfolding some_output object_of
-object-null [] h = (refl, refl)
-object-null (o ∷ os) h = let z : ◌≡◌ {A = ℕ} 0 1 = cc in absurd (omega arith)
+object_null [] h = (refl, refl)
+object_null (o ∷ os) h = let z : ◌≡◌ {A = ℕ} 0 1 = cc in absurd (omega arith)
 
-pub object-some : (os : List Output) → some_output os ≡ true → object_of os ≡ (put call.object_begin ++ os) ++ put call.object_end
+pub object_some : (os : List Output) → some_output os ≡ true → object_of os ≡ (put call.object_begin ++ os) ++ put call.object_end
 unfolding some_output object_of
-object-some [] h = let z : ◌≡◌ {A = ℕ} 0 1 = cc in absurd (omega arith)
-object-some (o ∷ os) h = refl
+object_some [] h = let z : ◌≡◌ {A = ℕ} 0 1 = cc in absurd (omega arith)
+object_some (o ∷ os) h = refl
 
 -- ---- which call a node becomes
 
 module _ (c : Context) (p : Place) (n : Name) (a : Attributes) (k : Children) where
-  pub element-classic : classic_element c a ≡ true → lower_node c (element p n a k) ≡ classic_call_of c p n a k
+  pub element_classic : classic_element c a ≡ true → lower_node c (element p n a k) ≡ classic_call_of c p n a k
   unfolding lower_node classic_call_of classic_properties
-  element-classic h = rw h refl
+  element_classic h = rw h refl
 
-  pub element-automatic : classic_element c a ≡ false → lower_node c (element p n a k) ≡ automatic_element c p n a k
+  pub element_automatic : classic_element c a ≡ false → lower_node c (element p n a k) ≡ automatic_element c p n a k
   unfolding lower_node automatic_element
-  element-automatic h = rw h refl
+  element_automatic h = rw h refl
 
-  pub fragment-classic : is_classic c.settings.mode ≡ true → lower_node c (fragment p k) ≡ classic_fragment c k
+  pub fragment_classic : is_classic c.settings.mode ≡ true → lower_node c (fragment p k) ≡ classic_fragment c k
   unfolding lower_node classic_fragment
-  fragment-classic h = rw h refl
+  fragment_classic h = rw h refl
 
-  pub fragment-automatic : is_classic c.settings.mode ≡ false → lower_node c (fragment p k) ≡ automatic_fragment c k
+  pub fragment_automatic : is_classic c.settings.mode ≡ false → lower_node c (fragment p k) ≡ automatic_fragment c k
   unfolding lower_node automatic_fragment
-  fragment-automatic h = rw h refl
+  fragment_automatic h = rw h refl
 
 -- ---- the last key's place, attribute by attribute
 
@@ -185,20 +185,20 @@ pub record KeySoFar (c : Context) (d : ℕ) (t : List ℕ) (a : Attributes) (giv
   pub place : KeyAt c d t given key output
   pub same : lower_key c a given ≡ lower_key c rest output
 
-pub key-start : (c : Context) (d : ℕ) (t : List ℕ) (a : Attributes) (given : List Output) → KeySoFar c d t a given 0 a
-key-start c d t a given = record { output = given; place = no-key; same = refl }
+pub key_start : (c : Context) (d : ℕ) (t : List ℕ) (a : Attributes) (given : List Output) → KeySoFar c d t a given 0 a
+key_start c d t a given = record { output = given; place = without_key; same = refl }
 
 module _ (c : Context) (d : ℕ) (t : List ℕ) (a : Attributes) (given : List Output) (i : ℕ) where
-  pub key-goes : (key k f : ℕ) (y z : Attributes) → length t < i + suc f → KeyFirst c d (drop i t) k f y z → KeySoFar c d t a given key y
+  pub key_goes : (key k f : ℕ) (y z : Attributes) → length t < i + suc f → KeyFirst c d (drop i t) k f y z → KeySoFar c d t a given key y
       → KeySoFar c d t a given (cond (eqb k 0) key (i + k)) z
-  key-goes key k f y z enough (other h e) S =
+  key_goes key k f y z enough (other h e) S =
       let r : KeySoFar c d t a given key z = record { output = S.output; place = S.place; same = S.same ∙ e S.output } in
       rw (eq-eqb k 0 h) r
-  key-goes key k f y z enough (first v u h r e) S =
+  key_goes key k f y z enough (first v u h r e) S =
       let q : KeySoFar c d t a given (i + k) z =
       record {
         output = put call.key ++ lower_value c v;
-        place = key-at (i + k) f u v (omega arith) (omega arith) (ap (λ (l : List ℕ). value_at f c.text d l) (sym (drop-drop k i t)) ∙ r);
+        place = key_at (i + k) f u v (omega arith) (omega arith) (ap (λ (l : List ℕ). value_at f c.text d l) (sym (drop-drop k i t)) ∙ r);
         same = S.same ∙ e S.output;
       } in
       rw (ne_eqb k 0 (λ j. omega arith)) q
@@ -206,22 +206,22 @@ module _ (c : Context) (d : ℕ) (t : List ℕ) (a : Attributes) (given : List O
 -- ---- children, one at a time: what a step says of the counts
 
 module _ (c : Context) (k : Children) where
-  pub text-counts : (s : Span) (n : ℕ) → n ≡ some_line (jsx_text c.text s)
+  pub text_counts : (s : Span) (n : ℕ) → n ≡ some_line (jsx_text c.text s)
       → (survivors c (text_child s k) ≡ n + survivors c k) × (has_spread (text_child s k) ≡ (false || has_spread k))
   unfolding survivors has_spread
-  text-counts s n h = (ap (λ (q : ℕ). q + survivors c k) (sym h), refl)
+  text_counts s n h = (ap (λ (q : ℕ). q + survivors c k) (sym h), refl)
 
-  pub expression-counts : (x : ℕ) → (survivors c (expression_child x k) ≡ 1 + survivors c k) × (has_spread (expression_child x k) ≡ (false || has_spread k))
+  pub expression_counts : (x : ℕ) → (survivors c (expression_child x k) ≡ 1 + survivors c k) × (has_spread (expression_child x k) ≡ (false || has_spread k))
   unfolding survivors has_spread
-  expression-counts x = (omega arith, refl)
+  expression_counts x = (omega arith, refl)
 
-  pub empty-counts : (survivors c (empty_child k) ≡ 0 + survivors c k) × (has_spread (empty_child k) ≡ (false || has_spread k))
+  pub empty_counts : (survivors c (empty_child k) ≡ 0 + survivors c k) × (has_spread (empty_child k) ≡ (false || has_spread k))
   unfolding survivors has_spread
-  empty-counts = (omega arith, refl)
+  empty_counts = (omega arith, refl)
 
-  pub spread-counts : (x : ℕ) → (survivors c (spread_child x k) ≡ 1 + survivors c k) × (has_spread (spread_child x k) ≡ (true || has_spread k))
+  pub spread_counts : (x : ℕ) → (survivors c (spread_child x k) ≡ 1 + survivors c k) × (has_spread (spread_child x k) ≡ (true || has_spread k))
   unfolding survivors has_spread
-  spread-counts x = (omega arith, refl)
+  spread_counts x = (omega arith, refl)
 
   pub node_counts : (n : Node) → (survivors c (node_child n k) ≡ 1 + survivors c k) × (has_spread (node_child n k) ≡ (false || has_spread k))
   unfolding survivors has_spread
@@ -231,26 +231,26 @@ module _ (c : Context) (k : Children) where
 
 module _ (c : Context) (classic : Bool) (s : Span) (v : Value) (a : Attributes) where
   -- a key with a value is no property of an automatic call
-  pub key-passed : (is_key c s && has_value v) ≡ true → classic ≡ false → lower_attributes c classic (attribute s v a) ≡ [] ++ lower_attributes c classic a
+  pub key_passed : (is_key c s && has_value v) ≡ true → classic ≡ false → lower_attributes c classic (attribute s v a) ≡ [] ++ lower_attributes c classic a
   unfolding lower_attributes
-  key-passed h i = go (is_key c s && has_value v) (not classic) _ _ h (ap not i)
+  key_passed h i = go (is_key c s && has_value v) (not classic) _ _ h (ap not i)
     where
       go : (x y : Bool) (p q : List Output) → x ≡ true → y ≡ true → cond (x && y) p q ≡ p
       go x y p q h i = rw (h, i) refl
 
-  pub property-written : (is_key c s && has_value v) ≡ false
+  pub property_written : (is_key c s && has_value v) ≡ false
       → lower_attributes c classic (attribute s v a) ≡ ((key_notice c s v ++ attribute_name c s) ++ lower_value c v) ++ lower_attributes c classic a
   unfolding lower_attributes
-  property-written h = go (is_key c s && has_value v) (not classic) _ _ h
+  property_written h = go (is_key c s && has_value v) (not classic) _ _ h
     where
       go : (x y : Bool) (p q : List Output) → x ≡ false → cond (x && y) p q ≡ q
       go x y p q h = rw h refl
 
   -- every key is a property of a classic call
-  pub classic-property : classic ≡ true
+  pub classic_property : classic ≡ true
       → lower_attributes c classic (attribute s v a) ≡ ((key_notice c s v ++ attribute_name c s) ++ lower_value c v) ++ lower_attributes c classic a
   unfolding lower_attributes
-  classic-property h = go (is_key c s && has_value v) (not classic) _ _ (ap not h)
+  classic_property h = go (is_key c s && has_value v) (not classic) _ _ (ap not h)
     where
       go : (x y : Bool) (p q : List Output) → y ≡ false → cond (x && y) p q ≡ q
       go true y p q h = rw h refl

@@ -23,13 +23,13 @@ use Rattle.root_check.specs.InOrder.{Inside}
 use Rattle.parts.specs.declared.jsx_impl.Items.{Items}
 use Rattle.parts.specs.Promises.{IsText, TextWritten}
 use Rattle.jsx.specs.Parts.{Written, Countable, goes, Moves, ChildStep, ChildrenEnd, ChildrenGo, ChildrenWritten, children_object}
-use Rattle.parts.proofs.Inversions.{Opening, Behind, value-element, value-fragment}
-use Rattle.jsx.proofs.Nesting.{children-end, children-text, children-expression, children-empty, children-spread, children-element, children-fragment}
+use Rattle.parts.proofs.Inversions.{Opening, Behind, value_element, value_fragment}
+use Rattle.jsx.proofs.Nesting.{children_ended, children_text, children_expression, children_empty, children_spread, children_element, children_fragment}
 use Rattle.jsx.proofs.Writing.{none, along, called, being, instead}
 use Rattle.parts.specs.Promises.{starts_with}
-use Rattle.parts.proofs.Ends.{children-over, some-there}
-use Rattle.jsx.proofs.Turns.{Left, left-start, left-goes, left-ends, or_assoc, or-false}
-use Rattle.jsx.proofs.Lowerings.{node-written, step-on, step_end, text-counts, expression-counts, empty-counts, spread-counts, node_counts, no-survivors, children-none, children-some}
+use Rattle.parts.proofs.Ends.{children_over, some_there}
+use Rattle.jsx.proofs.Turns.{Left, left_start, left_goes, left_ends, or_assoc, or_false}
+use Rattle.jsx.proofs.Lowerings.{node_written, step_on, step_end, text_counts, expression_counts, empty_counts, spread_counts, node_counts, no_survivors, children_none, children_some}
 
 -- a place whose numbers are not the greatest
 pub countable : (p : Place) → p.line < 4294967296 → p.column < 4294967296 → (p.line ≡ 4294967295 → ⊥) → (p.column ≡ 4294967295 → ⊥) → Countable p
@@ -58,105 +58,105 @@ enough : (t part : List ℕ) → part ≡ drop 9 t → 9 ≤ length t → (f g :
 enough t part here fits f g h e = omega (arith, ap length here, length-drop 9 t)
 
 module _ (c : Context) (t : List ℕ) (part : List ℕ) (here : part ≡ drop 9 t) (fits : 9 ≤ length t) {cs cs' ns ns' : List ℕ} {p p' : Pen} {used : ℕ} where
-  opened-element : (at : Place) → at.line < 4294967296 → at.column < 4294967296 → ElementWritten c part cs cs' ns ns' p p' used at → (f d : ℕ) (n : Node) (u : ℕ) → length t < f
+  opened_element : (at : Place) → at.line < 4294967296 → at.column < 4294967296 → ElementWritten c part cs cs' ns ns' p p' used at → (f d : ℕ) (n : Node) (u : ℕ) → length t < f
       → (o : Opening (λ g l. element_at g c.text d at l) t f at n u) → Written (lower_node c n) o.took cs cs' ns ns' p p' used
-  opened-element at l k w f d n u h o =
+  opened_element at l k w f d n u h o =
       w o.fuel d n o.took (enough t part here fits f o.fuel h o.turns) (ap (λ (q : List ℕ). element_at o.fuel c.text d at q) here ∙ o.reads)
       (countable at l k o.line o.column)
 
-  opened-fragment : (at : Place) → FragmentWritten c part cs cs' ns ns' p p' used → (f d : ℕ) (n : Node) (u : ℕ) → length t < f
+  opened_fragment : (at : Place) → FragmentWritten c part cs cs' ns ns' p p' used → (f d : ℕ) (n : Node) (u : ℕ) → length t < f
       → (o : Opening (λ g l. fragment_at g c.text d at l) t f at n u) → Written (lower_node c n) o.took cs cs' ns ns' p p' used
-  opened-fragment at w f d n u h o =
+  opened_fragment at w f d n u h o =
       w o.fuel d at n o.took (enough t part here fits f o.fuel h o.turns) (ap (λ (q : List ℕ). fragment_at o.fuel c.text d at q) here ∙ o.reads)
 
-  pub value-element-written : (at : Place) → value_command t ≡ values.Element at → at.line < 4294967296 → at.column < 4294967296 → ElementWritten c part cs cs' ns ns' p p' used at
+  pub value_element_written : (at : Place) → value_command t ≡ values.Element at → at.line < 4294967296 → at.column < 4294967296 → ElementWritten c part cs cs' ns ns' p p' used at
       → (f d : ℕ) (v : Value) (u : ℕ) → length t < f → value_at f c.text d t ≡ done v u → Written (lower_value c v) u cs cs' ns ns' p p' (9 + used)
-  value-element-written at k l m w f d v u h e =
-      let r = value-element c.text t d f at k e in
-      node-written c r.1 r.2.used (opened-element at l m w f d r.0 u h r.2)
+  value_element_written at k l m w f d v u h e =
+      let r = value_element c.text t d f at k e in
+      node_written c r.1 r.2.used (opened_element at l m w f d r.0 u h r.2)
 
-  pub value-fragment-written : (at : Place) → value_command t ≡ values.Fragment at → FragmentWritten c part cs cs' ns ns' p p' used
+  pub value_fragment_written : (at : Place) → value_command t ≡ values.Fragment at → FragmentWritten c part cs cs' ns ns' p p' used
       → (f d : ℕ) (v : Value) (u : ℕ) → length t < f → value_at f c.text d t ≡ done v u → Written (lower_value c v) u cs cs' ns ns' p p' (9 + used)
-  value-fragment-written at k w f d v u h e =
-      let r = value-fragment c.text t d f at k e in
-      node-written c r.1 r.2.used (opened-fragment at w f d r.0 u h r.2)
+  value_fragment_written at k w f d v u h e =
+      let r = value_fragment c.text t d f at k e in
+      node_written c r.1 r.2.used (opened_fragment at w f d r.0 u h r.2)
 
-  node-child : (f d : ℕ) (k : Children) (u : ℕ) (n : Node) (took : ℕ) → Behind (λ g l. children_at g c.text d l) t f k u (9 + took) (node_child n)
+  node_child_behind : (f d : ℕ) (k : Children) (u : ℕ) (n : Node) (took : ℕ) → Behind (λ g l. children_at g c.text d l) t f k u (9 + took) (node_child n)
       → Written (lower_node c n) took cs cs' ns ns' p p' used → ChildStep c d t cs cs' ns ns' p (node_item p' used) f k u
   unfolding lower_children
-  node-child f d k u n took B w =
+  node_child_behind f d k u n took B w =
       let B' : Behind (λ g l. children_at g c.text d l) t f k u (9 + used) (node_child n) =
       subst (λ (q : ℕ). Behind (λ g l. children_at g c.text d l) t f k u (9 + q) (node_child n)) (sym w.taken) B in
-      step-on (λ g l. children_at g c.text d l) (lower_children c) (ChildrenEnd c (node_item p' used)) (ChildrenGo c (node_item p' used)) t B' (lower_node c n) refl
+      step_on (λ g l. children_at g c.text d l) (lower_children c) (ChildrenEnd c (node_item p' used)) (ChildrenGo c (node_item p' used)) t B' (lower_node c n) refl
       (node_counts c B'.rest n) w.wrote
 
-  pub child-element : (at : Place) → child_command t ≡ children.Element at → at.line < 4294967296 → at.column < 4294967296 → ElementWritten c part cs cs' ns ns' p p' used at
+  pub child_element : (at : Place) → child_command t ≡ children.Element at → at.line < 4294967296 → at.column < 4294967296 → ElementWritten c part cs cs' ns ns' p p' used at
       → (f d : ℕ) (k : Children) (u : ℕ) → length t < f → children_at f c.text d t ≡ done k u → ChildStep c d t cs cs' ns ns' p (node_item p' used) f k u
-  child-element at i l m w f d k u h e =
-      let N = children-element c.text t d f at i e in
-      node-child f d k u N.child N.opening.took
+  child_element at i l m w f d k u h e =
+      let N = children_element c.text t d f at i e in
+      node_child_behind f d k u N.child N.opening.took
       (subst (λ (q : ℕ). Behind (λ g l. children_at g c.text d l) t f k u q (node_child N.child)) N.opening.used N.behind)
-      (opened-element at l m w f d N.child N.took h N.opening)
+      (opened_element at l m w f d N.child N.took h N.opening)
 
-  pub child-fragment : (at : Place) → child_command t ≡ children.Fragment at → FragmentWritten c part cs cs' ns ns' p p' used
+  pub child_fragment : (at : Place) → child_command t ≡ children.Fragment at → FragmentWritten c part cs cs' ns ns' p p' used
       → (f d : ℕ) (k : Children) (u : ℕ) → length t < f → children_at f c.text d t ≡ done k u → ChildStep c d t cs cs' ns ns' p (node_item p' used) f k u
-  child-fragment at i w f d k u h e =
-      let N = children-fragment c.text t d f at i e in
-      node-child f d k u N.child N.opening.took
+  child_fragment at i w f d k u h e =
+      let N = children_fragment c.text t d f at i e in
+      node_child_behind f d k u N.child N.opening.took
       (subst (λ (q : ℕ). Behind (λ g l. children_at g c.text d l) t f k u q (node_child N.child)) N.opening.used N.behind)
-      (opened-fragment at w f d N.child N.took h N.opening)
+      (opened_fragment at w f d N.child N.took h N.opening)
 
 -- ---- the other children
 
 module _ (c : Context) (t : List ℕ) {cs cs' : List ℕ} {p : Pen} (ns : List ℕ) where
-  pub child-text : (s : Span) (r : Items) → child_command t ≡ children.Text s → IsText r → (Inside c.text s → TextWritten c.text s cs cs' p r)
+  pub child_text : (s : Span) (r : Items) → child_command t ≡ children.Text s → IsText r → (Inside c.text s → TextWritten c.text s cs cs' p r)
       → (f d : ℕ) (k : Children) (u : ℕ) → children_at f c.text d t ≡ done k u → ChildStep c d t cs cs' ns ns p r f k u
   unfolding lower_children
-  child-text s r i T w f d k u e =
-      let x = children-text c.text t d f s i e in
+  child_text s r i T w f d k u e =
+      let x = children_text c.text t d f s i e in
       let B : Behind (λ g l. children_at g c.text d l) t f k u 5 (text_child s) = x.0 in
       let W : TextWritten c.text s cs cs' p r = w (record { inside = x.1; whole = x.2 }) in
-      let n = text-counts c B.rest s r.count W.counted in
+      let n = text_counts c B.rest s r.count W.counted in
       goes T.more B.fuel B.turns B.rest B.size (ap (λ (q : ℕ). children_at B.fuel c.text d (drop q t)) T.used ∙ B.reads)
       (B.used ∙ ap (λ (q : ℕ). q + B.size) (sym T.used)) (lower_text (jsx_text c.text s)) (ap (lower_children c) B.is)
       (ap (survivors c) B.is ∙ n.0, ap has_spread B.is ∙ n.1 ∙ ap (λ (b : Bool). b || has_spread B.rest) (sym T.bare)) (called ns W.wrote)
 
 module _ (c : Context) (t : List ℕ) {cs cs' : List ℕ} {p p' : Pen} (ns : List ℕ) where
-  pub child-expression : (x : ℕ) → child_command t ≡ children.Expression x → Called (put_over call.expression x) cs cs' p p'
+  pub child_expression : (x : ℕ) → child_command t ≡ children.Expression x → Called (put_over call.expression x) cs cs' p p'
       → (f d : ℕ) (k : Children) (u : ℕ) → children_at f c.text d t ≡ done k u
       → ChildStep c d t cs cs' ns ns p (record { pen = p'; used = 3; last = false; count = 1; spread = false }) f k u
   unfolding lower_children
-  child-expression x i w f d k u e =
+  child_expression x i w f d k u e =
       let r : Items = record { pen = p'; used = 3; last = false; count = 1; spread = false } in
-      let B = children-expression c.text t d f x i e in
-      step-on (λ g l. children_at g c.text d l) (lower_children c) (ChildrenEnd c r) (ChildrenGo c r) t B (put_over call.expression x) refl
-      (expression-counts c B.rest x) (called ns w)
+      let B = children_expression c.text t d f x i e in
+      step_on (λ g l. children_at g c.text d l) (lower_children c) (ChildrenEnd c r) (ChildrenGo c r) t B (put_over call.expression x) refl
+      (expression_counts c B.rest x) (called ns w)
 
-  pub child-spread : (x : ℕ) → child_command t ≡ children.Spread x → Called (put_over call.spread_item x) cs cs' p p'
+  pub child_spread : (x : ℕ) → child_command t ≡ children.Spread x → Called (put_over call.spread_item x) cs cs' p p'
       → (f d : ℕ) (k : Children) (u : ℕ) → children_at f c.text d t ≡ done k u
       → ChildStep c d t cs cs' ns ns p (record { pen = p'; used = 3; last = false; count = 1; spread = true }) f k u
   unfolding lower_children
-  child-spread x i w f d k u e =
+  child_spread x i w f d k u e =
       let r : Items = record { pen = p'; used = 3; last = false; count = 1; spread = true } in
-      let B = children-spread c.text t d f x i e in
-      step-on (λ g l. children_at g c.text d l) (lower_children c) (ChildrenEnd c r) (ChildrenGo c r) t B (put_over call.spread_item x) refl
-      (spread-counts c B.rest x) (called ns w)
+      let B = children_spread c.text t d f x i e in
+      step_on (λ g l. children_at g c.text d l) (lower_children c) (ChildrenEnd c r) (ChildrenGo c r) t B (put_over call.spread_item x) refl
+      (spread_counts c B.rest x) (called ns w)
 
 module _ (c : Context) (t cs ns : List ℕ) (p : Pen) where
-  pub child-empty : child_command t ≡ children.Empty → (f d : ℕ) (k : Children) (u : ℕ) → children_at f c.text d t ≡ done k u
+  pub child_empty : child_command t ≡ children.Empty → (f d : ℕ) (k : Children) (u : ℕ) → children_at f c.text d t ≡ done k u
       → ChildStep c d t cs cs ns ns p (record { pen = p; used = 1; last = false; count = 0; spread = false }) f k u
   unfolding lower_children
-  child-empty i f d k u e =
+  child_empty i f d k u e =
       let r : Items = record { pen = p; used = 1; last = false; count = 0; spread = false } in
-      let B = children-empty c.text t d f i e in
-      step-on (λ g l. children_at g c.text d l) (lower_children c) (ChildrenEnd c r) (ChildrenGo c r) t B [] refl (empty-counts c B.rest) (none cs ns p)
+      let B = children_empty c.text t d f i e in
+      step_on (λ g l. children_at g c.text d l) (lower_children c) (ChildrenEnd c r) (ChildrenGo c r) t B [] refl (empty_counts c B.rest) (none cs ns p)
 
-  pub child-end : child_command t ≡ children.End → (f d : ℕ) (k : Children) (u : ℕ) → children_at f c.text d t ≡ done k u
+  pub child_end : child_command t ≡ children.End → (f d : ℕ) (k : Children) (u : ℕ) → children_at f c.text d t ≡ done k u
       → ChildStep c d t cs cs ns ns p (record { pen = p; used = 1; last = true; count = 0; spread = false }) f k u
   unfolding lower_children survivors has_spread
-  child-end i f d k u e =
+  child_end i f d k u e =
       let r : Items = record { pen = p; used = 1; last = true; count = 0; spread = false } in
-      let x = children-end c.text t d f i e in
+      let x = children_ended c.text t d f i e in
       step_end (λ g l. children_at g c.text d l) (lower_children c) (ChildrenEnd c r) (ChildrenGo c r) t no_children x.0 x.1 refl (refl, refl, refl, refl)
       (none cs ns p)
 
@@ -174,36 +174,39 @@ pub record KidsLeft (c : Context) (t cs₀ cs ns₀ ns : List ℕ) (p₀ p : Pen
   pub left : (f d : ℕ) (k : Children) (u : ℕ) → length t < f → children_at f c.text d t ≡ done k u
       → Left (λ g l. children_at g c.text d l) (lower_children c) (SoFar c k count spread) t k u cs₀ cs ns₀ ns p₀ p i
 
-pub kids-start : (c : Context) (t cs ns : List ℕ) (p : Pen) → KidsLeft c t cs cs ns ns p p 0 0 false
-kids-start c t cs ns p =
+pub kids_start : (c : Context) (t cs ns : List ℕ) (p : Pen) → KidsLeft c t cs cs ns ns p p 0 0 false
+kids_start c t cs ns p =
     record {
       inside = omega arith;
       few = omega arith;
       same = refl;
       same' = refl;
       left =
-          λ f d k u h e. left-start (λ g l. children_at g c.text d l) (lower_children c) t f k u cs ns p h e (record { counted = omega arith; spreads = refl });
+          λ f d k u h e. left_start (λ g l. children_at g c.text d l) (lower_children c) t f k u cs ns p h e (record { counted = omega arith; spreads = refl });
     }
 
 module _ (c : Context) (t : List ℕ) {cs₀ cs ns₀ ns : List ℕ} {p₀ p : Pen} {i count : ℕ} {spread : Bool} (K : KidsLeft c t cs₀ cs ns₀ ns p₀ p i count spread)
     (q : List ℕ) (here : q ≡ drop i t) (r : Items) (moves : Moves (length q) r.used r.last) (fewer : r.count ≤ r.used) where
-  pub kid-fits : i + r.used ≤ length t
-  kid-fits = omega (arith, moves.inside, K.inside, ap length here, length-drop i t)
+  pub kid_fits : i + r.used ≤ length t
+  kid_fits = omega (arith, moves.inside, K.inside, ap length here, length-drop i t)
+
+  pub kids_fit : count + r.count ≤ length t
+  kids_fit = omega (arith, K.few, fewer, kid_fits)
 
 module _ (c : Context) (t : List ℕ) {cs₀ cs cs₁ ns₀ ns ns₁ : List ℕ} {p₀ p : Pen} {i count : ℕ} {spread : Bool} (K : KidsLeft c t cs₀ cs ns₀ ns p₀ p i count spread)
     (q : List ℕ) (here : q ≡ drop i t) (r : Items) (moves : Moves (length q) r.used r.last) (fewer : r.count ≤ r.used)
     (step : (f d : ℕ) (k : Children) (u : ℕ) → length q < f → children_at f c.text d q ≡ done k u → ChildStep c d q cs cs₁ ns ns₁ p r f k u)
     (short : length cs₀ ≤ 2 ^ 63) (short' : length ns₀ ≤ 2 ^ 63) where
-  pub kids-go : length cs₁ ≡ length cs → length ns₁ ≡ length ns → r.last ≡ false
+  pub kids_go : length cs₁ ≡ length cs → length ns₁ ≡ length ns → r.last ≡ false
       → KidsLeft c t cs₀ cs₁ ns₀ ns₁ p₀ r.pen (i + r.used) (count + r.count) (spread || r.spread)
-  kids-go a b l =
+  kids_go a b l =
       record {
-        inside = kid-fits c t K q here r moves fewer;
+        inside = kid_fits c t K q here r moves fewer;
         few = omega (arith, K.few, fewer);
         same = a ∙ K.same;
         same' = b ∙ K.same';
         left =
-            λ f d k u h e. left-goes (λ g l. children_at g c.text d l) (lower_children c) t q here K.inside (λ g y v. step g d y v) short short' (K.left f d k u h e) l
+            λ f d k u h e. left_goes (λ g l. children_at g c.text d l) (lower_children c) t q here K.inside (λ g y v. step g d y v) short short' (K.left f d k u h e) l
             (moves.onward l)
             (λ g y z m G S. record {
               counted = omega (arith, S.counted, G.0);
@@ -211,11 +214,11 @@ module _ (c : Context) (t : List ℕ) {cs₀ cs cs₁ ns₀ ns ns₁ : List ℕ}
             });
       }
 
-  pub kids-end : r.last ≡ true → (f d : ℕ) (k : Children) (u : ℕ) → length t < f → children_at f c.text d t ≡ done k u
+  pub kids_end : r.last ≡ true → (f d : ℕ) (k : Children) (u : ℕ) → length t < f → children_at f c.text d t ≡ done k u
       → ChildrenWritten c k (lower_children c k) u cs₀ cs₁ ns₀ ns₁ p₀
       (record { pen = r.pen; used = i + r.used; last = true; count = count + r.count; spread = spread || r.spread })
-  kids-end l f d k u h e =
-      let z = left-ends (λ g l. children_at g c.text d l) (lower_children c) t q here K.inside (λ g y v. step g d y v) short short'
+  kids_end l f d k u h e =
+      let z = left_ends (λ g l. children_at g c.text d l) (lower_children c) t q here K.inside (λ g y v. step g d y v) short short'
       {Z = (count + r.count ≡ survivors c k) × ((spread || r.spread) ≡ has_spread k)} (K.left f d k u h e) l
       (λ y E S. (
         omega (arith, S.counted, E.0, E.2),
@@ -230,31 +233,31 @@ pub kids_over : (c : Context) (t : List ℕ) {cs₀ cs ns₀ ns : List ℕ} {p�
     → ChildrenWritten c k (lower_children c k) u cs₀ cs ns₀ ns p₀ (record { pen = p; used = i + 1; last = true; count = count; spread = spread })
 kids_over c t {cs₀} {cs} {ns₀} {ns} {p₀} {p} {i} {count} {spread} K q here short short' over f d k u h e =
     let none_more : count + 0 ≡ count = omega arith in
-    subst (λ (b : Bool). ChildrenWritten c k (lower_children c k) u cs₀ cs ns₀ ns p₀ (record { pen = p; used = i + 1; last = true; count = count; spread = b })) (or-false spread)
+    subst (λ (b : Bool). ChildrenWritten c k (lower_children c k) u cs₀ cs ns₀ ns p₀ (record { pen = p; used = i + 1; last = true; count = count; spread = b })) (or_false spread)
     (subst (λ (n : ℕ). ChildrenWritten c k (lower_children c k) u cs₀ cs ns₀ ns p₀ (record { pen = p; used = i + 1; last = true; count = n; spread = spread || false })) none_more
-    (kids-end c t K q here (record { pen = p; used = 1; last = true; count = 0; spread = false })
-    (record { inside = some-there 0x1f q over; onward = λ l. let z : ◌≡◌ {A = ℕ} 0 1 = cc in absurd (omega arith) }) (omega arith)
-    (λ f d k u h e. child-end c q cs ns p (children-over q over) f d k u e) short short' refl f d k u h e))
+    (kids_end c t K q here (record { pen = p; used = 1; last = true; count = 0; spread = false })
+    (record { inside = some_there 0x1f q over; onward = λ l. let z : ◌≡◌ {A = ℕ} 0 1 = cc in absurd (omega arith) }) (omega arith)
+    (λ f d k u h e. child_end c q cs ns p (children_over q over) f d k u e) short short' refl f d k u h e))
 
 -- ---- the children of an automatic call and the end of its object
 
 module _ (c : Context) {cs₀ cs₁ cs₂ ns₀ ns₂ : List ℕ} {p₀ p₁ : Pen} (short : length cs₀ ≤ 2 ^ 63) (short' : length ns₀ ≤ 2 ^ 63)
     (begun : Called (put call.children_begin) cs₀ cs₁ p₀ p₁) (r : Items) {k : Children} {u : ℕ} (W : ChildrenWritten c k (lower_children c k) u cs₁ cs₂ ns₀ ns₂ p₁ r) where
-  pub object-bare : {cs₃ : List ℕ} {p₃ : Pen} → r.count ≡ 0 → Called (put call.object_end) cs₂ cs₃ p₀ p₃
+  pub object_bare : {cs₃ : List ℕ} {p₃ : Pen} → r.count ≡ 0 → Called (put call.object_end) cs₂ cs₃ p₀ p₃
       → ChildrenWritten c k (children_object c k) u cs₀ cs₃ ns₀ ns₂ p₀ (record { pen = p₃; used = r.used; last = true; count = r.count; spread = r.spread })
-  object-bare z w =
+  object_bare z w =
       let n : survivors c k ≡ 0 = sym W.counted ∙ z in
       record {
         taken = W.taken;
         counted = W.counted;
         spreads = W.spreads;
-        wrote = being (sym (children-none c k n)) (instead short short' begun W.wrote (no-survivors c k n) w);
+        wrote = being (sym (children_none c k n)) (instead short short' begun W.wrote (no_survivors c k n) w);
       }
 
-  pub object-full : (n : ℕ) {cs₃ cs₄ : List ℕ} {p₃ p₄ : Pen} → (r.count ≡ 0 → ⊥) → n ≡ form_of r.count r.spread → Called (put_byte call.children_end n) cs₂ cs₃ r.pen p₃
+  pub object_full : (n : ℕ) {cs₃ cs₄ : List ℕ} {p₃ p₄ : Pen} → (r.count ≡ 0 → ⊥) → n ≡ form_of r.count r.spread → Called (put_byte call.children_end n) cs₂ cs₃ r.pen p₃
       → Called (put call.object_end) cs₃ cs₄ p₃ p₄
       → ChildrenWritten c k (children_object c k) u cs₀ cs₄ ns₀ ns₂ p₀ (record { pen = p₄; used = r.used; last = true; count = r.count; spread = r.spread })
-  object-full n {cs₃} {p₃ = p₃} z e v w =
+  object_full n {cs₃} {p₃ = p₃} z e v w =
       let form : n ≡ form_of (survivors c k) (has_spread k) =
       e ∙ ap (λ (m : ℕ). form_of m r.spread) W.counted ∙ ap (λ (b : Bool). form_of (survivors c k) b) W.spreads in
       let formed : Called (put_byte call.children_end (form_of (survivors c k) (has_spread k))) cs₂ cs₃ r.pen p₃ =
@@ -264,6 +267,6 @@ module _ (c : Context) {cs₀ cs₁ cs₂ ns₀ ns₂ : List ℕ} {p₀ p₁ : P
         counted = W.counted;
         spreads = W.spreads;
         wrote =
-            being (sym (children-some c k (λ h. z (W.counted ∙ h))))
+            being (sym (children_some c k (λ h. z (W.counted ∙ h))))
             (along short short' (along short short' (along short short' (called ns₀ begun) W.wrote) (called ns₂ formed)) (called ns₂ w));
       }

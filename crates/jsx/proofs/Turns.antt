@@ -28,9 +28,9 @@ pub record Left {A : Type 0} (read : ℕ → List ℕ → Parsed A) (out : A →
   pub also : K rest
 
 module _ {A : Type 0} (read : ℕ → List ℕ → Parsed A) (out : A → List Output) (t : List ℕ) where
-  pub left-start : {K : A → Type 0} (f : ℕ) (x : A) (u : ℕ) (cs ns : List ℕ) (p : Pen) → length t < f → read f t ≡ done x u → K x
+  pub left_start : {K : A → Type 0} (f : ℕ) (x : A) (u : ℕ) (cs ns : List ℕ) (p : Pen) → length t < f → read f t ≡ done x u → K x
       → Left read out K t x u cs cs ns ns p p 0
-  left-start f x u cs ns p h e k =
+  left_start f x u cs ns p h e k =
       record { fuel = f; rest = x; size = u; enough = omega arith; reads = e; used = omega arith; sofar = []; outs = refl; wrote = none cs ns p; also = k }
 
   module _ {Ends : A → Type 0} {Goes : List ℕ → ℕ → A → A → Type 0} {x : A} {u : ℕ} {cs₀ cs cs₁ ns₀ ns ns₁ : List ℕ} {p₀ p p₁ : Pen} {i n : ℕ} {last : Bool}
@@ -43,10 +43,10 @@ module _ {A : Type 0} (read : ℕ → List ℕ → Parsed A) (out : A → List O
         subst (λ (l : List ℕ). Step read out Ends Goes l cs cs₁ ns ns₁ p p₁ n last R.fuel R.rest R.size) here
         (step R.fuel R.rest R.size (omega (arith, R.enough, ap length here, length-drop i t)) (ap (λ (l : List ℕ). read R.fuel l) here ∙ R.reads))
 
-    pub left-goes : {K K' : A → Type 0} → Left read out K t x u cs₀ cs ns₀ ns p₀ p i → last ≡ false → 1 ≤ n
+    pub left_goes : {K K' : A → Type 0} → Left read out K t x u cs₀ cs ns₀ ns p₀ p i → last ≡ false → 1 ≤ n
         → ((f : ℕ) (y z : A) → length t < i + suc f → Goes (drop i t) f y z → K y → K' z)
         → Left read out K' t x u cs₀ cs₁ ns₀ ns₁ p₀ p₁ (i + n)
-    left-goes {K} {K'} R l pos keep = go (stepped R)
+    left_goes {K} {K'} R l pos keep = go (stepped R)
       where
         go : Step read out Ends Goes (drop i t) cs cs₁ ns ns₁ p p₁ n last R.fuel R.rest R.size → Left read out K' t x u cs₀ cs₁ ns₀ ns₁ p₀ p₁ (i + n)
         go (ends e h k m w) = let z : ◌≡◌ {A = ℕ} 0 1 = cc in absurd (omega arith)
@@ -63,9 +63,9 @@ module _ {A : Type 0} (read : ℕ → List ℕ → Parsed A) (out : A → List O
           also = keep g R.rest y (omega (arith, R.enough, turns)) m R.also;
         }
 
-    pub left-ends : {K : A → Type 0} {Z : Type 0} → Left read out K t x u cs₀ cs ns₀ ns p₀ p i → last ≡ true → ((y : A) → Ends y → K y → Z)
+    pub left_ends : {K : A → Type 0} {Z : Type 0} → Left read out K t x u cs₀ cs ns₀ ns p₀ p i → last ≡ true → ((y : A) → Ends y → K y → Z)
         → (u ≡ i + n) × Produced (out x) cs₀ cs₁ ns₀ ns₁ p₀ p₁ × Z
-    left-ends {K} {Z} R l keep = go (stepped R)
+    left_ends {K} {Z} R l keep = go (stepped R)
       where
         go : Step read out Ends Goes (drop i t) cs cs₁ ns ns₁ p p₁ n last R.fuel R.rest R.size → (u ≡ i + n) × Produced (out x) cs₀ cs₁ ns₀ ns₁ p₀ p₁ × Z
         go (goes e g turns y v r h os k m w) = let z : ◌≡◌ {A = ℕ} 0 1 = cc in absurd (omega arith)
@@ -81,6 +81,6 @@ pub or_assoc : (x y z : Bool) → (x || (y || z)) ≡ ((x || y) || z)
 or_assoc true y z = refl
 or_assoc false y z = refl
 
-pub or-false : (x : Bool) → (x || false) ≡ x
-or-false true = refl
-or-false false = refl
+pub or_false : (x : Bool) → (x || false) ≡ x
+or_false true = refl
+or_false false = refl

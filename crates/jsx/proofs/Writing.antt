@@ -12,10 +12,10 @@ use Rattle.definitions.specs.Lowering.{Output, put, commands_of, notices_of}
 use Rattle.definitions.specs.Store.{bound_by, bound_after, numbered, numbered_all}
 use Rattle.pen.specs.declared.pen.Pen.{Pen}
 use Rattle.pen.specs.Emitting.{bound_from, Emitted, Called, Produced}
-use Rattle.pen.proofs.Emitting.{emitted-none, emitted_then, emitted-over, standing-full}
+use Rattle.pen.proofs.Emitting.{emitted_none, emitted_then, emitted_over, standing_full}
 
 pub none : (cs ns : List ℕ) (p : Pen) → Produced [] cs cs ns ns p p
-none cs ns p a js s = emitted-none cs ns s
+none cs ns p a js s = emitted_none cs ns s
 
 pub called : {os : List Output} {cs cs' : List ℕ} {p p' : Pen} (ns : List ℕ) → Called os cs cs' p p' → Produced os cs cs' ns ns p p'
 called ns w a js s = w a js ns s
@@ -38,4 +38,4 @@ instead {b} {b'} {os} {cs} {cs₁} {cs₂} {cs₃} {ns} {ns₁} {p} {p₁} {p₂
     let e : Emitted a js (put b) cs cs₂ ns ns₁ p p₂ = along short short' (called ns v) (being none_written w) a js s in
     let same : ns₁ ≡ ns = e.notices in
     let f : Emitted a js (put b') cs₂ cs₃ ns ns₁ p p₃ = subst (λ (l : List ℕ). Emitted a js (put b') cs₂ cs₃ ns l p p₃) (sym same) (x a js ns s) in
-    emitted-over (omega arith) (λ h. e.fullness ∙ sym (standing-full s) ∙ h) e f
+    emitted_over (omega arith) (λ h. e.fullness ∙ sym (standing_full s) ∙ h) e f

@@ -70,8 +70,8 @@ pub data KeyFirst (c : Context) (d : ℕ) (t : List ℕ) (key f : ℕ) (a b : At
 
 -- the last key's value stands p bytes into t; or there is none, p is 0, and `os` is what is given
 pub data KeyAt (c : Context) (d : ℕ) (t : List ℕ) (other : List Output) : ℕ → List Output → Type 0 where
-  no-key : KeyAt c d t other 0 other
-  key-at : (p g u : ℕ) (v : Value) → length t < p + g → 1 ≤ p → value_at g c.text d (drop p t) ≡ done v u
+  without_key : KeyAt c d t other 0 other
+  key_at : (p g u : ℕ) (v : Value) → length t < p + g → 1 ≤ p → value_at g c.text d (drop p t) ≡ done v u
       → KeyAt c d t other p (put call.key ++ lower_value c v)
 
 abbrev pub AttributesEnd : Context → Bool → Props → Attributes → Type 0
@@ -97,9 +97,9 @@ pub record AttributesWritten (c : Context) (classic : Bool) (d : ℕ) (t : List 
 -- what an element behind its place is made of: its name takes `at` bytes, its attributes v, its children w
 pub record Parts (text : List ℕ) (d : ℕ) (t : List ℕ) (f at : ℕ) (n : Name) (a : Attributes) (v : ℕ) (k : Children) (w : ℕ) : Type 0 where
   pub enough : length t < f
-  pub name-reads : name_at f text t ≡ done n at
-  pub attributes-reads : attributes_at f text (suc d) (drop at t) ≡ done a v
-  pub children-reads : children_at f text (suc d) (drop (at + v) t) ≡ done k w
+  pub name_reads : name_at f text t ≡ done n at
+  pub attributes_reads : attributes_at f text (suc d) (drop at t) ≡ done a v
+  pub children_reads : children_at f text (suc d) (drop (at + v) t) ≡ done k w
 
 -- the children of an automatic call and the end of its object
 unfoldable pub children_object : Context → Children → List Output

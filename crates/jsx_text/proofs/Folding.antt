@@ -1,7 +1,7 @@
 -- The lines of a JSX text as a fold over its characters: all that is kept is how the present line stands.
---     Line, withInk, ended, atEnd, lines_from     the fold
---     view, fold-view                            what the fold gives from a state on, in the definition's terms
---     fold-text                                  from the start on it gives `jsxText`
+--     Line, with_ink, ended, at_end, lines_from   the fold
+--     view, fold_view                            what the fold gives from a state on, in the definition's terms
+--     fold_text                                  from the start on it gives `jsx_text`
 -- Assumes nothing.
 use mathlib.Core.Path.{◌≡◌, refl, sym, ◌∙◌}
 use mathlib.Core.Bool.{Bool, true, false, cond}
@@ -70,119 +70,119 @@ view s (inked f a z) e [] = at_end s (inked f a z) e
 view s (inked f a z) e (l ∷ []) = at_end s (inked f a z) (end_of e l)
 view s (inked f a z) e (l ∷ m ∷ ms) = between a (end_of z (trim_back l)) ∷ spans_of (later_lines (m ∷ ms))
 
-lines-some : (cs : List Placed) → 0 < length (lines_of cs)
+lines_some : (cs : List Placed) → 0 < length (lines_of cs)
 unfolding lines_of onto
-lines-some [] = omega arith
-lines-some (c ∷ cs) = go (is_line_terminator c.code) (lines_of cs)
+lines_some [] = omega arith
+lines_some (c ∷ cs) = go (is_line_terminator c.code) (lines_of cs)
   where
     go : (t : Bool) (ls : List (List Placed)) → 0 < length (cond t ([] ∷ ls) (onto c ls))
     go true ls = omega arith
     go false [] = omega arith
     go false (l ∷ ls) = omega arith
 
-view-blank : (s : Span) (e : ℕ) (ls : List (List Placed)) → view s blank e ls ≡ spans_of (later_lines ls)
+view_blank : (s : Span) (e : ℕ) (ls : List (List Placed)) → view s blank e ls ≡ spans_of (later_lines ls)
 unfolding view
-view-blank s e ls = refl
+view_blank s e ls = refl
 
 -- ---- a line ends
 
-view-end : (s : Span) (l : Line) (e : ℕ) (ls : List (List Placed)) → 0 < length ls
+view_end : (s : Span) (l : Line) (e : ℕ) (ls : List (List Placed)) → 0 < length ls
     → view s l e ([] ∷ ls) ≡ ended l ++ spans_of (later_lines ls)
 unfolding view ended from_start later_lines trim_front trim_back spans_of end_of
-view-end s l e [] h = absurd (omega arith)
-view-end s opening e (m ∷ ms) h = refl
-view-end s blank e (m ∷ ms) h = refl
-view-end s (inked f a z) e (m ∷ ms) h = refl
+view_end s l e [] h = absurd (omega arith)
+view_end s opening e (m ∷ ms) h = refl
+view_end s blank e (m ∷ ms) h = refl
+view_end s (inked f a z) e (m ∷ ms) h = refl
 
 -- ---- a character of white space
 
 module _ (c : Placed) (w : is_white_space c.code ≡ true) where
-  start-white : (a : ℕ) (t : List Placed) → from_start a (before_trimmed c t) ≡ from_start a t
+  start_white : (a : ℕ) (t : List Placed) → from_start a (before_trimmed c t) ≡ from_start a t
   unfolding from_start before_trimmed end_of
-  start-white a [] = rw w
-  start-white a (d ∷ ds) = refl
+  start_white a [] = rw w
+  start_white a (d ∷ ds) = refl
 
-  end-white : (z : ℕ) (t : List Placed) → end_of z (before_trimmed c t) ≡ end_of z t
+  end_white : (z : ℕ) (t : List Placed) → end_of z (before_trimmed c t) ≡ end_of z t
   unfolding before_trimmed end_of
-  end-white z [] = rw w
-  end-white z (d ∷ ds) = refl
+  end_white z [] = rw w
+  end_white z (d ∷ ds) = refl
 
-  view-white : (s : Span) (l : Line) (e : ℕ) (ls : List (List Placed)) → view s l e (onto c ls) ≡ view s l c.next ls
+  view_white : (s : Span) (l : Line) (e : ℕ) (ls : List (List Placed)) → view s l e (onto c ls) ≡ view s l c.next ls
   unfolding view onto later_lines trim_front trim_back spans_of end_of
-  view-white s opening e [] = refl
-  view-white s opening e (l ∷ []) = refl
-  view-white s opening e (l ∷ m ∷ ms) = rw (start-white s.start (trim_back l))
-  view-white s blank e [] = rw w
-  view-white s blank e (l ∷ []) = rw w
-  view-white s blank e (l ∷ m ∷ ms) = rw w
-  view-white s (inked f a z) e [] = refl
-  view-white s (inked f a z) e (l ∷ []) = refl
-  view-white s (inked f a z) e (l ∷ m ∷ ms) = rw (end-white z (trim_back l))
+  view_white s opening e [] = refl
+  view_white s opening e (l ∷ []) = refl
+  view_white s opening e (l ∷ m ∷ ms) = rw (start_white s.start (trim_back l))
+  view_white s blank e [] = rw w
+  view_white s blank e (l ∷ []) = rw w
+  view_white s blank e (l ∷ m ∷ ms) = rw w
+  view_white s (inked f a z) e [] = refl
+  view_white s (inked f a z) e (l ∷ []) = refl
+  view_white s (inked f a z) e (l ∷ m ∷ ms) = rw (end_white z (trim_back l))
 
 -- ---- any other character
 
 module _ (c : Placed) (w : is_white_space c.code ≡ false) where
-  ink-trimmed : (t : List Placed) → before_trimmed c t ≡ c ∷ t
+  ink_trimmed : (t : List Placed) → before_trimmed c t ≡ c ∷ t
   unfolding before_trimmed
-  ink-trimmed [] = rw w
-  ink-trimmed (d ∷ ds) = refl
+  ink_trimmed [] = rw w
+  ink_trimmed (d ∷ ds) = refl
 
-  at-end-ink : (s : Span) (f : Bool) (a y z e : ℕ) → at_end s (inked f a y) e ≡ at_end s (inked f a z) e
+  at_end_ink : (s : Span) (f : Bool) (a y z e : ℕ) → at_end s (inked f a y) e ≡ at_end s (inked f a z) e
   unfolding at_end
-  at-end-ink s true a y z e = refl
-  at-end-ink s false a y z e = refl
+  at_end_ink s true a y z e = refl
+  at_end_ink s false a y z e = refl
 
-  view-ink : (s : Span) (l : Line) (e : ℕ) (ls : List (List Placed))
+  view_ink : (s : Span) (l : Line) (e : ℕ) (ls : List (List Placed))
       → view s l e (onto c ls) ≡ view s (with_ink s l c.at c.next) c.next ls
   unfolding view onto with_ink at_end from_start later_lines trim_front trim_back spans_of end_of
-  view-ink s opening e [] = refl
-  view-ink s opening e (l ∷ []) = refl
-  view-ink s opening e (l ∷ m ∷ ms) = rw (ink-trimmed (trim_back l))
-  view-ink s blank e [] = rw w
-  view-ink s blank e (l ∷ []) = rw w
-  view-ink s blank e (l ∷ m ∷ ms) = rw (w, ink-trimmed (trim_back l))
-  view-ink s (inked f a z) e [] = at-end-ink s f a z c.next c.next
-  view-ink s (inked f a z) e (l ∷ []) = at-end-ink s f a z c.next (end_of c.next l)
-  view-ink s (inked f a z) e (l ∷ m ∷ ms) = rw (ink-trimmed (trim_back l))
+  view_ink s opening e [] = refl
+  view_ink s opening e (l ∷ []) = refl
+  view_ink s opening e (l ∷ m ∷ ms) = rw (ink_trimmed (trim_back l))
+  view_ink s blank e [] = rw w
+  view_ink s blank e (l ∷ []) = rw w
+  view_ink s blank e (l ∷ m ∷ ms) = rw (w, ink_trimmed (trim_back l))
+  view_ink s (inked f a z) e [] = at_end_ink s f a z c.next c.next
+  view_ink s (inked f a z) e (l ∷ []) = at_end_ink s f a z c.next (end_of c.next l)
+  view_ink s (inked f a z) e (l ∷ m ∷ ms) = rw (ink_trimmed (trim_back l))
 
 -- ---- the whole
 
-view-last : (s : Span) (l : Line) (e : ℕ) → at_end s l e ≡ view s l e ([] ∷ [])
+view_last : (s : Span) (l : Line) (e : ℕ) → at_end s l e ≡ view s l e ([] ∷ [])
 unfolding at_end view later_lines trim_front spans_of end_of
-view-last s opening e = refl
-view-last s blank e = refl
-view-last s (inked f a z) e = refl
+view_last s opening e = refl
+view_last s blank e = refl
+view_last s (inked f a z) e = refl
 
-pub fold-view : (s : Span) (l : Line) (e : ℕ) (cs : List Placed) → lines_from s l e cs ≡ view s l e (lines_of cs)
+pub fold_view : (s : Span) (l : Line) (e : ℕ) (cs : List Placed) → lines_from s l e cs ≡ view s l e (lines_of cs)
 unfolding lines_from lines_of
-fold-view s l e [] = view-last s l e
-fold-view s l e (c ∷ cs) =
-    go (is_line_terminator c.code) refl (is_white_space c.code) refl (λ k. fold-view s k c.next cs)
+fold_view s l e [] = view_last s l e
+fold_view s l e (c ∷ cs) =
+    go (is_line_terminator c.code) refl (is_white_space c.code) refl (λ k. fold_view s k c.next cs)
   where
     go : (t : Bool) → is_line_terminator c.code ≡ t → (w : Bool) → is_white_space c.code ≡ w
         → ((k : Line) → lines_from s k c.next cs ≡ view s k c.next (lines_of cs))
         → lines_from s l e (c ∷ cs) ≡ view s l e (lines_of (c ∷ cs))
-    go true p w q ih = rw (p, ih blank, view-blank s c.next (lines_of cs)) (sym (view-end s l e (lines_of cs) (lines-some cs)))
-    go false p true q ih = rw (p, q) (ih l ∙ sym (view-white c q s l e (lines_of cs)))
+    go true p w q ih = rw (p, ih blank, view_blank s c.next (lines_of cs)) (sym (view_end s l e (lines_of cs) (lines_some cs)))
+    go false p true q ih = rw (p, q) (ih l ∙ sym (view_white c q s l e (lines_of cs)))
     go false p false q ih =
-        rw (p, q) (ih (with_ink s l c.at c.next) ∙ sym (view-ink c q s l e (lines_of cs)))
+        rw (p, q) (ih (with_ink s l c.at c.next) ∙ sym (view_ink c q s l e (lines_of cs)))
 
 -- the first line begins where the text does
 module _ (s : Span) (c : Placed) (h : c.at ≡ s.start) where
-  start-kept : (t : List Placed) (ls : List (List Placed)) → from_start s.start (before_trimmed c t) ++ spans_of ls ≡ spans_of (before_trimmed c t ∷ ls)
+  start_kept : (t : List Placed) (ls : List (List Placed)) → from_start s.start (before_trimmed c t) ++ spans_of ls ≡ spans_of (before_trimmed c t ∷ ls)
   unfolding from_start before_trimmed spans_of
-  start-kept [] ls = go (is_white_space c.code)
+  start_kept [] ls = go (is_white_space c.code)
     where
       go : (w : Bool) → from_start s.start (cond w [] (c ∷ [])) ++ spans_of ls ≡ spans_of (cond w [] (c ∷ []) ∷ ls)
       go true = refl
       go false = rw h
-  start-kept (d ∷ ds) ls = rw h
+  start_kept (d ∷ ds) ls = rw h
 
-  view-kept : (e : ℕ) (ls : List (List Placed)) → view s opening e (onto c ls) ≡ kept_lines s (onto c ls)
+  view_kept : (e : ℕ) (ls : List (List Placed)) → view s opening e (onto c ls) ≡ kept_lines s (onto c ls)
   unfolding view onto kept_lines trim_back
-  view-kept e [] = refl
-  view-kept e (l ∷ []) = refl
-  view-kept e (l ∷ m ∷ ms) = start-kept (trim_back l) (later_lines (m ∷ ms))
+  view_kept e [] = refl
+  view_kept e (l ∷ []) = refl
+  view_kept e (l ∷ m ∷ ms) = start_kept (trim_back l) (later_lines (m ∷ ms))
 
 end_kept : (s : Span) (e : ℕ) (ls : List (List Placed)) → 0 < length ls → view s opening e ([] ∷ ls) ≡ kept_lines s ([] ∷ ls)
 unfolding view from_start kept_lines trim_back spans_of
@@ -193,21 +193,21 @@ kept_from : (s : Span) (c : Placed) (cs : List Placed) → c.at ≡ s.start
     → lines_from s opening s.start (c ∷ cs) ≡ kept_lines s (lines_of (c ∷ cs))
 unfolding lines_of
 kept_from s c cs h =
-    fold-view s opening s.start (c ∷ cs) ∙ go (is_line_terminator c.code)
+    fold_view s opening s.start (c ∷ cs) ∙ go (is_line_terminator c.code)
   where
     go : (t : Bool) → view s opening s.start (cond t ([] ∷ lines_of cs) (onto c (lines_of cs)))
         ≡ kept_lines s (cond t ([] ∷ lines_of cs) (onto c (lines_of cs)))
-    go true = end_kept s s.start (lines_of cs) (lines-some cs)
-    go false = view-kept s c h s.start (lines_of cs)
+    go true = end_kept s s.start (lines_of cs) (lines_some cs)
+    go false = view_kept s c h s.start (lines_of cs)
 
-kept-bytes : (s : Span) (l : List ℕ)
+kept_bytes : (s : Span) (l : List ℕ)
     → lines_from s opening s.start (chars_from 0 s.start l) ≡ kept_lines s (lines_of (chars_from 0 s.start l))
 unfolding chars_from lines_from lines_of at_end kept_lines
-kept-bytes s [] = refl
-kept-bytes s (b ∷ l) =
+kept_bytes s [] = refl
+kept_bytes s (b ∷ l) =
     kept_from s (record { at = s.start; code = (char_of (b ∷ l)).code; next = s.start + width (b ∷ l) })
     (chars_from (width (b ∷ l) - 1) (suc s.start) l) refl
 
-pub fold-text : (text : List ℕ) (s : Span) → lines_from s opening s.start (chars_from 0 s.start (part_of text s)) ≡ jsx_text text s
+pub fold_text : (text : List ℕ) (s : Span) → lines_from s opening s.start (chars_from 0 s.start (part_of text s)) ≡ jsx_text text s
 unfolding jsx_text
-fold-text text s = kept-bytes s (part_of text s)
+fold_text text s = kept_bytes s (part_of text s)

@@ -6,24 +6,24 @@ use native.Mathlib.Omega.{arith}
 use lib.ListN.{length, get_or, take, drop}
 use Rattle.text.specs.declared.chars.Char.{Char}
 use Rattle.text.specs.Chars.{char_of}
-use Rattle.text.proofs.Lists.{tail-part}
+use Rattle.text.proofs.Lists.{tail_part}
 use Rattle.jsx_text.specs.declared.Mark.{Mark}
 use Rattle.jsx_text.specs.declared.Mark.TheVariants.{Ink, White}
 use Rattle.jsx_text.specs.Marks.{marked, Run, Plain, Marks, character, plain, spaces}
-use Rattle.jsx_text.proofs.Runs.{run-front}
-use Rattle.jsx_text.proofs.Characters.{ascii-char}
+use Rattle.jsx_text.proofs.Runs.{run_front}
+use Rattle.jsx_text.proofs.Characters.{ascii_char}
 
 module _ (l : List ℕ) (i : ℕ) where
-  pub marks-character : (c : Char) (m : Mark) → c ≡ char_of (take (length l - i) (drop i l)) → m ≡ marked c → Marks l i m
-  marks-character c m e f = character (sym (f ∙ ap marked (e ∙ ap char_of (tail-part l i))))
+  pub marks_character : (c : Char) (m : Mark) → c ≡ char_of (take (length l - i) (drop i l)) → m ≡ marked c → Marks l i m
+  marks_character c m e f = character (sym (f ∙ ap marked (e ∙ ap char_of (tail_part l i))))
 
-  pub marks-ascii : (m : Mark) → i < length l → get_or l i 0 < 0x80 → m ≡ marked (record { code = get_or l i 0; width = 1 }) → Marks l i m
-  marks-ascii m h k f = character (ap marked (ascii-char l i h k) ∙ sym f)
+  pub marks_ascii : (m : Mark) → i < length l → get_or l i 0 < 0x80 → m ≡ marked (record { code = get_or l i 0; width = 1 }) → Marks l i m
+  marks_ascii m h k f = character (ap marked (ascii_char l i h k) ∙ sym f)
 
-  pub marks-plain : (to : ℕ) → Plain l i to → Marks l i (Ink (to - i))
-  marks-plain to p = let e : i + (to - i) ≡ to = omega (arith, p.some) in plain {n = to - i} (rw e p)
+  pub marks_plain : (to : ℕ) → Plain l i to → Marks l i (Ink (to - i))
+  marks_plain to p = let e : i + (to - i) ≡ to = omega (arith, p.some) in plain {n = to - i} (rw e p)
 
-  pub marks-spaces : (to : ℕ) → get_or l i 0 ≡ 0x20 → Run l 0x20 0x20 (i + 1) to → Marks l i (White (to - i))
-  marks-spaces to b r =
+  pub marks_spaces : (to : ℕ) → get_or l i 0 ≡ 0x20 → Run l 0x20 0x20 (i + 1) to → Marks l i (White (to - i))
+  marks_spaces to b r =
       let e : i + (to - i) ≡ to = omega (arith, r.forward) in
-      spaces {n = to - i} (omega (arith, r.forward)) (rw e (run-front l 0x20 0x20 i to (omega arith) (omega arith) r))
+      spaces {n = to - i} (omega (arith, r.forward)) (rw e (run_front l 0x20 0x20 i to (omega arith) (omega arith) r))

@@ -24,23 +24,23 @@ module _ (l : List ℕ) (lo hi from : ℕ) where
     each = λ k p q. below_more (λ k. from ≤ k → (lo ≤ get_or l k 0) × (get_or l k 0 ≤ hi)) to (λ k q p. r.each k p q) (λ p. (a, b)) k q p;
   }
 
-  pub run-front : (to : ℕ) → lo ≤ get_or l from 0 → get_or l from 0 ≤ hi → Run l lo hi (from + 1) to → Run l lo hi from to
-  run-front to a b r = record { forward = omega (arith, r.forward); inside = r.inside; each = each }
+  pub run_front : (to : ℕ) → lo ≤ get_or l from 0 → get_or l from 0 ≤ hi → Run l lo hi (from + 1) to → Run l lo hi from to
+  run_front to a b r = record { forward = omega (arith, r.forward); inside = r.inside; each = each }
     where
       each : (k : ℕ) → from ≤ k → k < to → (lo ≤ get_or l k 0) × (get_or l k 0 ≤ hi)
       each k p q =
           ⊎_elim (λ e. subst (λ (n : ℕ). (lo ≤ get_or l n 0) × (get_or l n 0 ≤ hi)) e (a, b)) (λ h. r.each k (omega arith) q) (eq-or-lt_of_le p)
 
-  pub run-less : (to : ℕ) → Run l lo hi from to → from < to → Run l lo hi from (to - 1)
-  run-less to r h = record { forward = omega arith; inside = omega (arith, r.inside); each = λ k p q. r.each k p (omega arith) }
+  pub run_less : (to : ℕ) → Run l lo hi from to → from < to → Run l lo hi from (to - 1)
+  run_less to r h = record { forward = omega arith; inside = omega (arith, r.inside); each = λ k p q. r.each k p (omega arith) }
 
-  pub run-tail : (to : ℕ) → Run l lo hi from to → from < to → Run l lo hi (from + 1) to
-  run-tail to r h = record { forward = omega arith; inside = r.inside; each = λ k p q. r.each k (omega arith) q }
+  pub run_tail : (to : ℕ) → Run l lo hi from to → from < to → Run l lo hi (from + 1) to
+  run_tail to r h = record { forward = omega arith; inside = r.inside; each = λ k p q. r.each k (omega arith) q }
 
   -- `&l[to..to + n]` is a run
-  pub run-block : (to n : ℕ) → Run l lo hi from to → to + n ≤ length l
+  pub run_block : (to n : ℕ) → Run l lo hi from to → to + n ≤ length l
       → Run (take (to + n - to) (drop to l)) lo hi 0 (length (take (to + n - to) (drop to l))) → Run l lo hi from (to + n)
-  run-block to n r h b = record { forward = omega (arith, r.forward); inside = h; each = each }
+  run_block to n r h b = record { forward = omega (arith, r.forward); inside = h; each = each }
     where
       z : to + n - to ≡ n
       z = omega arith
@@ -69,8 +69,8 @@ not_first l from to h k e = let le : from ≤ to - 1 = omega arith in ⊎_elim (
     go z = omega (arith, e, ap (λ (n : ℕ). get_or l n 0) z)
 
 -- the test of a run, joined by `&` with those of a byte
-pub run-tests : (all : Bool) (lo b hi : ℕ) → ((all && leb lo b) && leb b hi) ≡ true → (all ≡ true) × (lo ≤ b) × (b ≤ hi)
-run-tests all lo b hi e = go all (leb lo b) refl (leb b hi) refl e
+pub run_tests : (all : Bool) (lo b hi : ℕ) → ((all && leb lo b) && leb b hi) ≡ true → (all ≡ true) × (lo ≤ b) × (b ≤ hi)
+run_tests all lo b hi e = go all (leb lo b) refl (leb b hi) refl e
   where
     go : (a x : Bool) → leb lo b ≡ x → (y : Bool) → leb b hi ≡ y → ((a && x) && y) ≡ true → (a ≡ true) × (lo ≤ b) × (b ≤ hi)
     go true true p true q e = (refl, leb-true lo b p, leb-true b hi q)

@@ -1,8 +1,8 @@
 -- The bytes of a text child, line by line: they are the same whatever is bound, and a text binds nothing and notifies nothing.
 --     Unbound                                outputs that bind nothing and notify nothing, and their bytes
---     text-unbound                           a text child is such, whatever is bound: its three parts are
---     text-anywhere, text-binds-nothing, text-silent
---     restBytes, rest-line, rest_end         what is written from a place among the lines on, line by line
+--     text_unbound                           a text child is such, whatever is bound: its three parts are
+--     text_anywhere, text_binds_nothing, text_silent
+--     rest_bytes, rest_line, rest_end        what is written from a place among the lines on, line by line
 -- Assumes nothing.
 use mathlib.Core.Path.{◌≡◌, refl, ap}
 use mathlib.Core.Bool.{Bool, true, false, cond}
@@ -25,13 +25,13 @@ pub record Unbound (js : List Import) (os : List Output) (bs : List ℕ) : Type 
   pub silent : notices_of os ≡ []
 
 module _ (js : List Import) (os : List Output) (bs : List ℕ) (u : Unbound js os bs) where
-  with-bare : (c : call.Bare) → Unbound js (emit (bare c) ∷ os) (bare_code c ∷ bs)
+  with_bare : (c : call.Bare) → Unbound js (emit (bare c) ∷ os) (bare_code c ∷ bs)
   unfolding call_bytes numbered_all numbered commands_of bytes_of bound_after bound_by notices_of
-  with-bare c = record { bytes = ap (λ (l : List ℕ). bare_code c ∷ l) u.bytes; binds = u.binds; silent = u.silent }
+  with_bare c = record { bytes = ap (λ (l : List ℕ). bare_code c ∷ l) u.bytes; binds = u.binds; silent = u.silent }
 
-  with-piece : (s : Span) → Unbound js (piece s ++ os) (piece_bytes s ++ bs)
+  with_piece : (s : Span) → Unbound js (piece s ++ os) (piece_bytes s ++ bs)
   unfolding call_bytes numbered_all numbered commands_of bytes_of span_code bound_after bound_by notices_of
-  with-piece s = go (eqb s.len 0)
+  with_piece s = go (eqb s.len 0)
     where
       go : (b : Bool) → Unbound js (cond b [] (put_span call.piece s) ++ os) (cond b [] (0x8b ∷ span_bytes s) ++ bs)
       go true = u
@@ -45,47 +45,47 @@ unfoldable pub more_bytes : List Span → List ℕ
 more_bytes [] = 0x8d ∷ []
 more_bytes (s ∷ ss) = line_bytes true s ++ more_bytes ss
 
-unbound-end : (js : List Import) → Unbound js (put call.string_end) (0x8d ∷ [])
+unbound_end : (js : List Import) → Unbound js (put call.string_end) (0x8d ∷ [])
 unfolding call_bytes numbered_all numbered commands_of bytes_of bare_code bound_after bound_by notices_of
-unbound-end js = record { bytes = refl; binds = refl; silent = refl }
+unbound_end js = record { bytes = refl; binds = refl; silent = refl }
 
-unbound-joined : (js : List Import) (s : Span) (ss : List Span)
+unbound_joined : (js : List Import) (s : Span) (ss : List Span)
     → Unbound js (joined (s ∷ ss) ++ put call.string_end) (piece_bytes s ++ more_bytes ss)
 unfolding joined more_bytes line_bytes bare_code
-unbound-joined js s [] = with-piece js _ _ (unbound-end js) s
-unbound-joined js s (r ∷ rs) =
+unbound_joined js s [] = with_piece js _ _ (unbound_end js) s
+unbound_joined js s (r ∷ rs) =
     simp append_assoc
-    (with-piece js _ _ (with-bare js _ _ (unbound-joined js r rs) call.space) s)
+    (with_piece js _ _ (with_bare js _ _ (unbound_joined js r rs) call.space) s)
 
-unbound-text : (js : List Import) (s : Span) (ss : List Span) → Unbound js (lower_text (s ∷ ss)) (line_bytes false s ++ more_bytes ss)
+unbound_text : (js : List Import) (s : Span) (ss : List Span) → Unbound js (lower_text (s ∷ ss)) (line_bytes false s ++ more_bytes ss)
 unfolding lower_text line_bytes bare_code
-unbound-text js s ss = with-bare js _ _ (unbound-joined js s ss) call.string_begin
+unbound_text js s ss = with_bare js _ _ (unbound_joined js s ss) call.string_begin
 
-unbound-none : (js : List Import) → Unbound js (lower_text []) []
+unbound_none : (js : List Import) → Unbound js (lower_text []) []
 unfolding lower_text call_bytes numbered_all commands_of bound_after notices_of
-unbound-none js = record { bytes = refl; binds = refl; silent = refl }
+unbound_none js = record { bytes = refl; binds = refl; silent = refl }
 
-text-some : (s : Span) (ss : List Span) → text_bytes (s ∷ ss) ≡ line_bytes false s ++ more_bytes ss
+text_some : (s : Span) (ss : List Span) → text_bytes (s ∷ ss) ≡ line_bytes false s ++ more_bytes ss
 unfolding text_bytes
-text-some s ss = (unbound-text [] s ss).bytes
+text_some s ss = (unbound_text [] s ss).bytes
 
-text-none : text_bytes [] ≡ []
+text_none : text_bytes [] ≡ []
 unfolding text_bytes
-text-none = (unbound-none []).bytes
+text_none = (unbound_none []).bytes
 
 -- ---- what a text child does to calls, bindings and notices
-pub text-unbound : (js : List Import) (ls : List Span) → Unbound js (lower_text ls) (text_bytes ls)
-text-unbound js [] = rw text-none (unbound-none js)
-text-unbound js (s ∷ ss) = rw text-some (unbound-text js s ss)
+pub text_unbound : (js : List Import) (ls : List Span) → Unbound js (lower_text ls) (text_bytes ls)
+text_unbound js [] = rw text_none (unbound_none js)
+text_unbound js (s ∷ ss) = rw text_some (unbound_text js s ss)
 
-pub text-anywhere : (js : List Import) (ls : List Span) → call_bytes (numbered_all js (commands_of (lower_text ls))) ≡ text_bytes ls
-text-anywhere js ls = (text-unbound js ls).bytes
+pub text_anywhere : (js : List Import) (ls : List Span) → call_bytes (numbered_all js (commands_of (lower_text ls))) ≡ text_bytes ls
+text_anywhere js ls = (text_unbound js ls).bytes
 
-pub text-binds-nothing : (js : List Import) (ls : List Span) → bound_after js (commands_of (lower_text ls)) ≡ js
-text-binds-nothing js ls = (text-unbound js ls).binds
+pub text_binds_nothing : (js : List Import) (ls : List Span) → bound_after js (commands_of (lower_text ls)) ≡ js
+text_binds_nothing js ls = (text_unbound js ls).binds
 
-pub text-silent : (ls : List Span) → notices_of (lower_text ls) ≡ []
-text-silent ls = (text-unbound [] ls).silent
+pub text_silent : (ls : List Span) → notices_of (lower_text ls) ≡ []
+text_silent ls = (text_unbound [] ls).silent
 
 -- ---- from a place among the lines on
 -- what is written of these lines, after others or as the first
@@ -93,12 +93,12 @@ unfoldable pub rest_bytes : Bool → List Span → List ℕ
 rest_bytes true ls = more_bytes ls
 rest_bytes false ls = text_bytes ls
 
-pub rest-line : (later : Bool) (s : Span) (ss : List Span) → rest_bytes later (s ∷ ss) ≡ line_bytes later s ++ rest_bytes true ss
+pub rest_line : (later : Bool) (s : Span) (ss : List Span) → rest_bytes later (s ∷ ss) ≡ line_bytes later s ++ rest_bytes true ss
 unfolding rest_bytes more_bytes
-rest-line true s ss = refl
-rest-line false s ss = text-some s ss
+rest_line true s ss = refl
+rest_line false s ss = text_some s ss
 
 pub rest_end : (later : Bool) → rest_bytes later [] ≡ end_bytes later
 unfolding rest_bytes more_bytes end_bytes
 rest_end true = refl
-rest_end false = text-none
+rest_end false = text_none

@@ -12,11 +12,11 @@ use Rattle.tape.proofs.Targets.{wrote_then}
 use Rattle.jsx_text.specs.TextBytes.{line_bytes}
 
 module _ (later : Bool) (s : Span) (b : ℕ) (e : b ≡ cond later 0x8c 0x8a) (o o₁ : List ℕ) (at r₁ : ℕ) (w : Wrote o o₁ at r₁ (b ∷ [])) where
-  pub wrote-empty-line : s.len ≡ 0 → Wrote o o₁ at r₁ (line_bytes later s)
+  pub wrote_empty_line : s.len ≡ 0 → Wrote o o₁ at r₁ (line_bytes later s)
   unfolding line_bytes
-  wrote-empty-line z = rw (eq-eqb s.len 0 z, ← e) w
+  wrote_empty_line z = rw (eq-eqb s.len 0 z, ← e) w
 
-  pub wrote-line : (s.len ≡ 0 → ⊥) → length o ≤ 2 ^ 63 → (o₂ o₃ : List ℕ) (r₂ r₃ : ℕ) → Wrote o₁ o₂ r₁ r₂ (0x8b ∷ [])
+  pub wrote_line : (s.len ≡ 0 → ⊥) → length o ≤ 2 ^ 63 → (o₂ o₃ : List ℕ) (r₂ r₃ : ℕ) → Wrote o₁ o₂ r₁ r₂ (0x8b ∷ [])
       → Wrote o₂ o₃ r₂ r₃ (span_bytes s) → Wrote o o₃ at r₃ (line_bytes later s)
   unfolding line_bytes
-  wrote-line nz short o₂ o₃ r₂ r₃ p q = rw (ne_eqb s.len 0 nz, ← e) (wrote_then short (wrote_then short w p) q)
+  wrote_line nz short o₂ o₃ r₂ r₃ p q = rw (ne_eqb s.len 0 nz, ← e) (wrote_then short (wrote_then short w p) q)

@@ -79,7 +79,7 @@ unfolding jsx_text kept_lines lines_of onto chars_from char_of width within part
 lines_left = refl
 
 -- the bytes of no line, of an empty one, of one, and of three
-pub bytes-of-lines :
+pub bytes_of_lines :
     map text_bytes ([] ∷ (at 7 0 ∷ []) ∷ (at 0 3 ∷ []) ∷ (at 0 3 ∷ at 258 1 ∷ at 300 513 ∷ []) ∷ [])
     ≡ []
     ∷ (0x8a ∷ 0x8d ∷ [])
@@ -87,4 +87,4 @@ pub bytes-of-lines :
     ∷ (0x8a ∷ 0x8b ∷ 0 ∷ 0 ∷ 3 ∷ 0 ∷ 0x8c ∷ 0x8b ∷ 2 ∷ 1 ∷ 1 ∷ 0 ∷ 0x8c ∷ 0x8b ∷ 44 ∷ 1 ∷ 1 ∷ 2 ∷ 0x8d ∷ [])
     ∷ []
 unfolding text_bytes lower_text joined commands_of numbered_all numbered bound_by call_bytes bytes_of bare_code span_code
-bytes-of-lines = refl
+bytes_of_lines = refl

@@ -6,7 +6,6 @@ ghost use Rattle.std.specs.Prelude.{◌≤◌, length};
 
 use files::{CANNOT_WRITE, print_bytes, print_decimal, read_full};
 use jsx_text::fixup_whitespace_and_decode_entities;
-use std::alloc::AllocError;
 use std::io;
 use std::io::Write;
 use text::bytes::Found;
@@ -71,10 +70,9 @@ fn run(rt: &(impl Input + Print), buffer: &mut [u8]) -> io::Result<()>
     show_each(&mut io::writer(rt), &buffer[0..n])
 }
 
-fn main(rt: HostRuntime) -> Result<(), AllocError> {
-    let mut buffer = vec![in rt.alloc(); 0u8; 65536]?;
+fn main(rt: HostRuntime) {
+    let mut buffer = [0u8; 65536];
     if run(&rt, &mut buffer).is_err() {
         let _ = rt.eprintln(CANNOT_WRITE);
     }
-    Ok(())
 }

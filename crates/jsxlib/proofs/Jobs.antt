@@ -1,5 +1,5 @@
--- A whole job (specs, `jobOver`) by what its three parts come to.
---     opening-refused, root-refused, job-done     how far it came
+-- A whole job (specs, `job_over`) by what its three parts come to.
+--     opening_refused, root_refused, job_done     how far it came
 --     job_is                                      the parts of that, and demand 3 of the roots that it took
 -- Assumes nothing.
 use mathlib.Core.Path.{◌≡◌, refl, sym, ap, ◌∙◌}
@@ -19,7 +19,7 @@ use Rattle.definitions.specs.Entries.{opened_by, opened, judge_records, records_
 use Rattle.definitions.specs.Series.{World, opening, series}
 use Rattle.definitions.proofs.Demand3.{demand3}
 use Rattle.lowering.specs.RootLists.{roots_in, run}
-use Rattle.lowering.proofs.Listed.{run-leaves}
+use Rattle.lowering.proofs.Listed.{run_leaves}
 use Rattle.jsxlib.specs.Entries.{number_by, figure_by, records_number, records_figure, JobRun, job_records, job_roots, job_by, job_over}
 use Rattle.jsxlib.specs.Hosts.{Served}
 
@@ -27,26 +27,26 @@ abbrev pub begun : State → List ℕ → List ℕ → World
 begun s calls notices = record { state = s; calls = calls; notices = notices }
 
 -- the number and the figure of a refusal
-told-number : {a : Answer} {x : Refusal} {n : ℕ} → a ≡ Refused x → n ≡ number_by a → number_of x ≡ n
+told_number : {a : Answer} {x : Refusal} {n : ℕ} → a ≡ Refused x → n ≡ number_by a → number_of x ≡ n
 unfolding number_by
-told-number h e = sym (e ∙ ap number_by h)
+told_number h e = sym (e ∙ ap number_by h)
 
-told-figure : {a : Answer} {x : Refusal} {n : ℕ} → a ≡ Refused x → n ≡ figure_by 0 a → figure_of x ≡ n
+told_figure : {a : Answer} {x : Refusal} {n : ℕ} → a ≡ Refused x → n ≡ figure_by 0 a → figure_of x ≡ n
 unfolding figure_by
-told-figure h e = sym (e ∙ ap (figure_by 0) h)
+told_figure h e = sym (e ∙ ap (figure_by 0) h)
 
 module _ (text job roots calls notices records : List ℕ) (t : Stepped) (told : t ≡ (opened text job notices).stepped) {noted : List ℕ}
     (noticed : noted ≡ (opened text job notices).notices) where
   opens : job_over text job roots calls notices records ≡ job_by text t.answer (begun t.state calls noted) roots records
   opens = λ ι. job_by text (sym told ι).answer (begun (sym told ι).state calls (sym noticed ι)) roots records
 
-  pub opening-refused : {x : Refusal} {n f : ℕ} → t.answer ≡ Refused x → n ≡ number_by t.answer → f ≡ figure_by 0 t.answer
+  pub opening_refused : {x : Refusal} {n f : ℕ} → t.answer ≡ Refused x → n ≡ number_by t.answer → f ≡ figure_by 0 t.answer
       → job_over text job roots calls notices records
       ≡ record { stage = 0; number = n; figure = f; taken = 0; world = begun t.state calls noted; records = records }
   unfolding job_by
-  opening-refused h n f =
+  opening_refused h n f =
       opens ∙ ap (λ (a : Answer). job_by text a (begun t.state calls noted) roots records) h
-      ∙ λ ι. record { stage = 0; number = told-number h n ι; figure = told-figure h f ι; taken = 0; world = begun t.state calls noted; records = records }
+      ∙ λ ι. record { stage = 0; number = told_number h n ι; figure = told_figure h f ι; taken = 0; world = begun t.state calls noted; records = records }
 
   module _ (accepts : t.answer ≡ Accepted) {a : Answer} {k : ℕ} {w : World}
       (answers : a ≡ (run text (begun t.state calls noted) roots).answer)
@@ -58,37 +58,37 @@ module _ (text job roots calls notices records : List ℕ) (t : Stepped) (told :
         opens ∙ ap (λ (b : Answer). job_by text b (begun t.state calls noted) roots records) accepts
         ∙ λ ι. job_roots text (sym answers ι) (sym takes ι) (sym leaves ι) records
 
-    pub root-refused : {x : Refusal} {n f : ℕ} → a ≡ Refused x → n ≡ number_by a → f ≡ figure_by 0 a
+    pub root_refused : {x : Refusal} {n f : ℕ} → a ≡ Refused x → n ≡ number_by a → f ≡ figure_by 0 a
         → job_over text job roots calls notices records ≡ record { stage = 1; number = n; figure = f; taken = k; world = w; records = records }
     unfolding job_roots
-    root-refused h n f =
+    root_refused h n f =
         runs ∙ ap (λ (b : Answer). job_roots text b k w records) h
-        ∙ λ ι. record { stage = 1; number = told-number h n ι; figure = told-figure h f ι; taken = k; world = w; records = records }
+        ∙ λ ι. record { stage = 1; number = told_number h n ι; figure = told_figure h f ι; taken = k; world = w; records = records }
 
-    pub job-done : {n f : ℕ} {rs : List ℕ} → a ≡ Accepted
+    pub job_done : {n f : ℕ} {rs : List ℕ} → a ≡ Accepted
         → n ≡ records_number (records_answer (judge_records text w.state (length records)))
         → f ≡ records_figure (records_answer (judge_records text w.state (length records)))
         → rs ≡ records_target records (judge_records text w.state (length records))
         → job_over text job roots calls notices records ≡ record { stage = 2; number = n; figure = f; taken = k; world = w; records = rs }
     unfolding job_roots job_records
-    job-done h n f r =
+    job_done h n f r =
         runs ∙ ap (λ (b : Answer). job_roots text b k w records) h
         ∙ λ ι. record { stage = 2; number = sym n ι; figure = sym f ι; taken = k; world = w; records = sym r ι }
 
 -- the world that a job leaves behind an accepted opening is the series of the roots that it took
-roots-leave : (text : List ℕ) (a : Answer) (k : ℕ) (w : World) (records : List ℕ) → ((job_roots text a k w records).world ≡ w) × ((job_roots text a k w records).taken ≡ k)
+roots_leave : (text : List ℕ) (a : Answer) (k : ℕ) (w : World) (records : List ℕ) → ((job_roots text a k w records).world ≡ w) × ((job_roots text a k w records).taken ≡ k)
 unfolding job_roots job_records
-roots-leave text Accepted k w records = (refl, refl)
-roots-leave text (Refused x) k w records = (refl, refl)
+roots_leave text Accepted k w records = (refl, refl)
+roots_leave text (Refused x) k w records = (refl, refl)
 
 module _ (text job roots calls notices records : List ℕ) where
-  job-served : (s : Settings) → judge_opening text job (length notices) ≡ accepted s
+  job_served : (s : Settings) → judge_opening text job (length notices) ≡ accepted s
       → Served text s calls notices (take (job_over text job roots calls notices records).taken (roots_in roots)) (job_over text job roots calls notices records).world
   unfolding opened opened_by job_by
-  job-served s h =
+  job_served s h =
       let w = opening text s calls notices in
       let r = run text w roots in
-      let l = roots-leave text r.answer r.taken r.world records in
+      let l = roots_leave text r.answer r.taken r.world records in
       let o : job_over text job roots calls notices records ≡ job_roots text r.answer r.taken r.world records =
       ap
       (λ (j : Judged Settings).
@@ -96,11 +96,10 @@ module _ (text job roots calls notices records : List ℕ) where
       h in
       let k = ap (λ (j : JobRun). j.taken) o ∙ l.1 in
       record {
-        is-series = ap (λ (j : JobRun). j.world) o ∙ l.0 ∙ run-leaves text w roots ∙ ap (λ (n : ℕ). series text w (take n (roots_in roots))) (sym k);
+        is_series = ap (λ (j : JobRun). j.world) o ∙ l.0 ∙ run_leaves text w roots ∙ ap (λ (n : ℕ). series text w (take n (roots_in roots))) (sym k);
         kept = demand3 text job s calls notices h (take (job_over text job roots calls notices records).taken (roots_in roots));
       }
 
-  -- what the contract of `jsx_job` says, of a job that came to o
   -- what the contract of `jsx_job` says, of a job that came to o
   abbrev pub Ends : JobRun → Type 0
   Ends o = record {
@@ -131,5 +130,5 @@ module _ (text job roots calls notices records : List ℕ) where
         calls_after = ap (λ (j : JobRun). j.world.calls) r;
         notices_after = ap (λ (j : JobRun). j.world.notices) r;
         records_after = ap (λ (j : JobRun). j.records) r;
-        served = job-served;
+        served = job_served;
       }

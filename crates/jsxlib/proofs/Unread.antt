@@ -38,30 +38,30 @@ unsound : (text : List ℕ) → sound text no_state ≡ false
 unfolding sound
 unsound text = refl
 
-unsound-from : (text state : List ℕ) → unpacked state ≡ none → sound text (state_from state) ≡ false
+unsound_from : (text state : List ℕ) → unpacked state ≡ none → sound text (state_from state) ≡ false
 unfolding unpacked_answer
-unsound-from text state e = ap (λ (f : Unpack). sound text (unpacked_answer f).state) e ∙ unsound text
+unsound_from text state e = ap (λ (f : Unpack). sound text (unpacked_answer f).state) e ∙ unsound text
 
-root-judged : (text : List ℕ) (s : State) (tape : List ℕ) (m n : ℕ) → (too_long text || too_long tape) ≡ false → first_ill text ≡ Nothing → sound text s ≡ false
+root_judged : (text : List ℕ) (s : State) (tape : List ℕ) (m n : ℕ) → (too_long text || too_long tape) ≡ false → first_ill text ≡ Nothing → sound text s ≡ false
     → judge_root text s tape m n ≡ refused refusal.Forged
 unfolding judge_root
-root-judged text s tape m n h g q = pass _ _ _ h ∙ fair _ _ _ g ∙ stop _ _ _ (ap (λ (b : Bool). not b || overfilled s m n) q)
+root_judged text s tape m n h g q = pass _ _ _ h ∙ fair _ _ _ g ∙ stop _ _ _ (ap (λ (b : Bool). not b || overfilled s m n) q)
 
-pub root-unread : RootUnread
+pub root_unread : RootUnread
 unfolding root_outcome outcome_by
-root-unread text state tape calls notices e h g =
+root_unread text state tape calls notices e h g =
     ap (λ (j : Judged Lowered). (outcome_by (state_from state) calls notices j).stepped.answer)
-    (root-judged text (state_from state) tape (length calls) (length notices) h g (unsound-from text state e))
+    (root_judged text (state_from state) tape (length calls) (length notices) h g (unsound_from text state e))
 
-pub list-unread : ListUnread
+pub list_unread : ListUnread
 unfolding run judged_run judge_list
-list-unread text state roots calls notices e h g =
+list_unread text state roots calls notices e h g =
     let w : World = record { state = state_from state; calls = calls; notices = notices } in
     ap (λ (j : Judged Run). (judged_run w j).answer)
     (pass _ _ _ h ∙ fair _ _ _ g
-    ∙ stop _ _ _ (ap (λ (b : Bool). not b || overfilled (state_from state) (length calls) (length notices)) (unsound-from text state e)))
+    ∙ stop _ _ _ (ap (λ (b : Bool). not b || overfilled (state_from state) (length calls) (length notices)) (unsound_from text state e)))
 
-pub records-unread : RecordsUnread
+pub records_unread : RecordsUnread
 unfolding judge_records judge_writing records_answer
-records-unread text state room e h g =
-    ap records_answer (pass _ _ _ h ∙ fair _ _ _ g ∙ stop _ _ _ (ap (λ (b : Bool). not b) (unsound-from text state e)))
+records_unread text state room e h g =
+    ap records_answer (pass _ _ _ h ∙ fair _ _ _ g ∙ stop _ _ _ (ap (λ (b : Bool). not b) (unsound_from text state e)))

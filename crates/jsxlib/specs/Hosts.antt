@@ -50,7 +50,7 @@ world_of h = record { state = state_from h.state; calls = h.calls; notices = h.n
 
 -- a world is the series of these roots behind the opening, and demand 3 holds of it
 pub record Served (text : List ℕ) (s : Settings) (calls notices : List ℕ) (roots : List (List ℕ)) (w : World) : Type 0 where
-  pub is-series : w ≡ series text (opening text s calls notices) roots
+  pub is_series : w ≡ series text (opening text s calls notices) roots
   pub kept : Kept text s calls notices roots
 
 -- a notice target that begins with the opening's notices

@@ -1,8 +1,8 @@
 -- The first root of bytes that were read, and what of the targets is printed after a run.
---     first-unread, first-cut, first-root     the first root, by the code's tests
---     left-fits                               roots leave fills within the targets
---     job-fresh                               when a job is opened there are no calls, and its notices lie within their target
---     records-within                          the records lie within their target
+--     first_unread, first_cut, first_root     the first root, by the code's tests
+--     left_fits                               roots leave fills within the targets
+--     job_fresh                               when a job is opened there are no calls, and its notices lie within their target
+--     records_within                          the records lie within their target
 -- Assumes nothing.
 use mathlib.Core.Path.{◌≡◌, refl, sym, ap, subst, ◌∙◌}
 use mathlib.Core.List.{List, [], ◌∷◌}
@@ -18,11 +18,11 @@ use Rattle.definitions.specs.Judging.{Judged, accepted, refused}
 use Rattle.definitions.specs.Opening.{judge_opening}
 use Rattle.definitions.specs.Entries.{opened_by, opened, Lowered, judge_root, moved, outcome_by, root_outcome, judge_records, records_answer}
 use Rattle.definitions.specs.Series.{World, outcome_in, next, series}
-use Rattle.definitions.proofs.Verdicts.{length-laid, root-taken, records-taken}
-use Rattle.definitions.proofs.Openings.{opening-opens}
+use Rattle.definitions.proofs.Verdicts.{length_laid, root_taken, records_taken}
+use Rattle.definitions.proofs.Openings.{opening_opens}
 use Rattle.tape.specs.Numbers.{u16_at}
 use Rattle.lowering.specs.RootLists.{roots_from, roots_in, roots_by}
-use Rattle.lowering.proofs.Listed.{cut-length, cut-root, whole, one_more}
+use Rattle.lowering.proofs.Listed.{cut_length, cut_root, whole, one_more}
 use Rattle.jsxseries.specs.declared.series.First.{First}
 use Rattle.jsxseries.specs.declared.series.First.TheVariants.{Root, Missing}
 use Rattle.jsxseries.specs.Running.{world, first_of, Fits}
@@ -42,20 +42,20 @@ module _ (text : List ℕ) (w : World) (l : List ℕ) where
       go zero = (refl, refl)
       go (suc most) = (rw (e most) refl, rw (e most) refl)
 
-  pub first-unread : length l < 2 → Takes Missing w
+  pub first_unread : length l < 2 → Takes Missing w
   unfolding roots_by
-  first-unread h = missing (cut-length l 0 (omega arith))
+  first_unread h = missing (cut_length l 0 (omega arith))
 
   module _ (h : 2 ≤ length l) (n : ℕ) (e : n ≡ u16_at l 0) where
-    pub first-cut : length l - 2 < n → Takes Missing w
+    pub first_cut : length l - 2 < n → Takes Missing w
     unfolding roots_by
-    first-cut k = missing (cut-root l 0 h n e k)
+    first_cut k = missing (cut_root l 0 h n e k)
 
-    pub first-root : n ≤ length l - 2 → {x : Stepped} {cs ns : List ℕ} → x ≡ (outcome_in text w (take (2 + n - 2) (drop 2 l))).stepped
+    pub first_root : n ≤ length l - 2 → {x : Stepped} {cs ns : List ℕ} → x ≡ (outcome_in text w (take (2 + n - 2) (drop 2 l))).stepped
         → cs ≡ (outcome_in text w (take (2 + n - 2) (drop 2 l))).calls → ns ≡ (outcome_in text w (take (2 + n - 2) (drop 2 l))).notices
         → Takes (Root x.answer) (world x.state cs ns)
     unfolding roots_in roots_by first_of series
-    first-root k {x} {cs} {ns} p q r = go (length l) h
+    first_root k {x} {cs} {ns} p q r = go (length l) h
       where
         root : List ℕ
         root = take (2 + n - 2) (drop 2 l)
@@ -77,39 +77,39 @@ next_fits text w tape f = go (judge_root text w.state tape (length w.calls) (len
 
     go : (j : Judged Lowered) → judge_root text w.state tape (length w.calls) (length w.notices) ≡ j → Fits (left j)
     go (accepted l) e =
-        let t = root-taken text w.state tape (length w.calls) (length w.notices) l e in (
-          rw (length-laid w.state.calls l.calls w.calls t.calls-fit) t.calls-fit,
-          rw (length-laid w.state.notices l.notices w.notices t.notices-fit) t.notices-fit,
+        let t = root_taken text w.state tape (length w.calls) (length w.notices) l e in (
+          rw (length_laid w.state.calls l.calls w.calls t.calls_fit) t.calls_fit,
+          rw (length_laid w.state.notices l.notices w.notices t.notices_fit) t.notices_fit,
         )
     go (refused r) e = f
 
-series-fits : (text : List ℕ) (w : World) (roots : List (List ℕ)) → Fits w → Fits (series text w roots)
+series_fits : (text : List ℕ) (w : World) (roots : List (List ℕ)) → Fits w → Fits (series text w roots)
 unfolding series
-series-fits text w [] f = f
-series-fits text w (t ∷ ts) f = series-fits text (next text w t) ts (next_fits text w t f)
+series_fits text w [] f = f
+series_fits text w (t ∷ ts) f = series_fits text (next text w t) ts (next_fits text w t f)
 
-pub left-fits : (text : List ℕ) (w : World) (roots : List (List ℕ)) {v : World} → v ≡ series text w roots → Fits w → Fits v
-left-fits text w roots e f = subst Fits (sym e) (series-fits text w roots f)
+pub left_fits : (text : List ℕ) (w : World) (roots : List (List ℕ)) {v : World} → v ≡ series text w roots → Fits w → Fits v
+left_fits text w roots e f = subst Fits (sym e) (series_fits text w roots f)
 
 -- ---- opening
 
-pub job-fresh : (job text notices : List ℕ) (x : Stepped) → x ≡ (opened text job notices).stepped
+pub job_fresh : (job text notices : List ℕ) (x : Stepped) → x ≡ (opened text job notices).stepped
     → (x.state.calls ≡ 0) × (x.state.notices ≤ length notices)
 unfolding opened opened_by
-job-fresh job text notices x e =
+job_fresh job text notices x e =
     subst (λ (y : Stepped). (y.state.calls ≡ 0) × (y.state.notices ≤ length notices)) (sym e) (go (judge_opening text job (length notices)) refl)
   where
     go : (j : Judged Settings) → judge_opening text job (length notices) ≡ j
         → ((opened_by text notices j).stepped.state.calls ≡ 0) × ((opened_by text notices j).stepped.state.notices ≤ length notices)
-    go (accepted s) q = (refl, (opening-opens text job (length notices) s q).fits)
+    go (accepted s) q = (refl, (opening_opens text job (length notices) s q).fits)
     go (refused r) q = (refl, omega arith)
 
 -- ---- records
 
-pub records-within : (text : List ℕ) (s : State) (k n : ℕ) (w : Written) → w ≡ records_answer (judge_records text s k) → w ≡ written.Accepted n → n ≤ k
+pub records_within : (text : List ℕ) (s : State) (k n : ℕ) (w : Written) → w ≡ records_answer (judge_records text s k) → w ≡ written.Accepted n → n ≤ k
 unfolding records_answer
-records-within text s k n w e f = go (judge_records text s k) refl (sym e ∙ f)
+records_within text s k n w e f = go (judge_records text s k) refl (sym e ∙ f)
   where
     go : (j : Judged (List ℕ)) → judge_records text s k ≡ j → records_answer j ≡ written.Accepted n → n ≤ k
-    go (accepted t) i g = let m : length t ≡ n = cc in omega (arith, records-taken text s k t i, m)
+    go (accepted t) i g = let m : length t ≡ n = cc in omega (arith, records_taken text s k t i, m)
     go (refused r) i g = let z : ◌≡◌ {A = ℕ} 0 1 = cc in absurd (omega arith)

@@ -11,10 +11,9 @@ use definitions::state::{Answer, State, Written};
 use files::{CANNOT_WRITE, print_line, print_refusal, read_file};
 use series::lower_all;
 use settings::opening::open_job;
-use std::alloc::AllocError;
 use std::io::{Result, Write};
 use std::rt::Files;
-use std::{fs, io, result};
+use std::{fs, io};
 use store::module_imports::write_records;
 
 fn print_records(
@@ -106,20 +105,19 @@ fn run(
     records: &mut [u8],
     line: &mut [u8],
 ) -> Result<()> {
-    let j = read_file(rt, "job.bin", job);
-    let t = read_file(rt, "text.bin", text);
+    let j = read_file(rt, b"job.bin", job);
+    let t = read_file(rt, b"text.bin", text);
     run_job(rt, &job[0..j], &text[0..t], calls, notices, records, line)
 }
 
-fn main(rt: HostRuntime) -> result::Result<(), AllocError> {
-    let alloc = rt.alloc();
-    let mut job = vec![in alloc; 0u8; 65536]?;
-    let mut text = vec![in alloc; 0u8; 65536]?;
-    let mut calls = vec![in alloc; 0u8; 65536]?;
-    let mut notices = vec![in alloc; 0u8; 65536]?;
-    let mut records = vec![in alloc; 0u8; 65536]?;
+fn main(rt: HostRuntime) {
+    let mut job = [0u8; 65536];
+    let mut text = [0u8; 65536];
+    let mut calls = [0u8; 65536];
+    let mut notices = [0u8; 65536];
+    let mut records = [0u8; 65536];
     // the longest line has three bytes for each of a full target, its word and a line feed
-    let mut line = vec![in alloc; 0u8; 196800]?;
+    let mut line = [0u8; 196800];
     let printed = run(
         &rt,
         &mut job,
@@ -132,5 +130,4 @@ fn main(rt: HostRuntime) -> result::Result<(), AllocError> {
     if printed.is_err() {
         let _ = rt.eprintln(CANNOT_WRITE);
     }
-    Ok(())
 }

@@ -1,6 +1,6 @@
 -- What the entries of a job with one root come to is what `jsxtape` (definitions, Program) prints.
---     root-refused, records-refused, all-written     by the answers of the root and of the records
---     job-refused, job-fresh, job-opened             by the answer of the opening
+--     root_refused, records_refused, all_written     by the answers of the root and of the records
+--     job_refused, job_fresh, job_opened             by the answer of the opening
 --     parts                                          what is printed is a part of each target
 -- Assumes nothing.
 use mathlib.Core.Path.{◌≡◌, refl, sym, ap, subst, ◌∙◌}
@@ -19,30 +19,30 @@ use Rattle.definitions.specs.Judging.{Judged, accepted, refused}
 use Rattle.definitions.specs.Opening.{opening_bytes, judge_opening}
 use Rattle.definitions.specs.Entries.{laid, opened_by, opened, open_state, Lowered, judge_root, moved, outcome_by, root_outcome, judge_records, records_answer, records_target}
 use Rattle.definitions.specs.Program.{Printed, printed, printed_refusal, room, print_records, print_root, print_opening, jsxtape}
-use Rattle.definitions.proofs.Verdicts.{take-laid, root-taken, records-taken}
-use Rattle.definitions.proofs.Openings.{opening-opens}
-use Rattle.definitions.proofs.RootSeries.{front-laid}
+use Rattle.definitions.proofs.Verdicts.{take_laid, root_taken, records_taken}
+use Rattle.definitions.proofs.Openings.{opening_opens}
+use Rattle.definitions.proofs.RootSeries.{front_laid}
 use Rattle.jsxtape.specs.declared.job.Ended.{Ended}
 use Rattle.jsxtape.specs.declared.job.Ended.TheVariants as ended
 use Rattle.jsxtape.specs.Endings.{shown, most, Ends, Rooms}
 
 -- ---- a refusal ends the job
 
-turned-away : (p : Printed) (r : Refusal) (cs ns rs : List ℕ) → p ≡ printed_refusal r → Ends p (ended.Refused r) cs ns rs
+turned_away : (p : Printed) (r : Refusal) (cs ns rs : List ℕ) → p ≡ printed_refusal r → Ends p (ended.Refused r) cs ns rs
 unfolding shown most
-turned-away p r cs ns rs e = record { shows = sym e; within = zero-le }
+turned_away p r cs ns rs e = record { shows = sym e; within = zero-le }
 
 -- ---- records
 
-records-by : (w : Written) (j : Judged (List ℕ)) (r : Refusal) → w ≡ records_answer j → w ≡ written.Refused r → j ≡ refused r
+records_by : (w : Written) (j : Judged (List ℕ)) (r : Refusal) → w ≡ records_answer j → w ≡ written.Refused r → j ≡ refused r
 unfolding records_answer
-records-by w (accepted t) r e f = let z : ◌≡◌ {A = ℕ} 0 1 = cc in absurd (omega arith)
-records-by w (refused q) r e f = cc
+records_by w (accepted t) r e f = let z : ◌≡◌ {A = ℕ} 0 1 = cc in absurd (omega arith)
+records_by w (refused q) r e f = cc
 
-records-all : (w : Written) (j : Judged (List ℕ)) (n : ℕ) → w ≡ records_answer j → w ≡ written.Accepted n → (t : List ℕ) × (j ≡ accepted t) × (n ≡ length t)
+records_all : (w : Written) (j : Judged (List ℕ)) (n : ℕ) → w ≡ records_answer j → w ≡ written.Accepted n → (t : List ℕ) × (j ≡ accepted t) × (n ≡ length t)
 unfolding records_answer
-records-all w (accepted t) n e f = (t, refl, cc)
-records-all w (refused r) n e f = let z : ◌≡◌ {A = ℕ} 0 1 = cc in absurd (omega arith)
+records_all w (accepted t) n e f = (t, refl, cc)
+records_all w (refused r) n e f = let z : ◌≡◌ {A = ℕ} 0 1 = cc in absurd (omega arith)
 
 -- ---- a root and the records after it
 
@@ -56,22 +56,22 @@ module _ (text : List ℕ) (s : State) (root calls notices records : List ℕ) (
 
   rooms : root_outcome text s root calls notices ≡ outcome_by s calls notices judged
   unfolding root_outcome
-  rooms = rw (h.calls-room, h.notices-room)
+  rooms = rw (h.calls_room, h.notices_room)
 
-  pub root-refused : (x : Stepped) (r : Refusal) (cs ns rs : List ℕ) → x ≡ (root_outcome text s root calls notices).stepped → x.answer ≡ answer.Refused r
+  pub root_refused : (x : Stepped) (r : Refusal) (cs ns rs : List ℕ) → x ≡ (root_outcome text s root calls notices).stepped → x.answer ≡ answer.Refused r
       → Ends (print_root text noticed s judged) (ended.Refused r) cs ns rs
   unfolding print_root outcome_by
-  root-refused x r cs ns rs e g = turned-away _ r cs ns rs (go judged (sym (ap (λ (y : Stepped). y.answer) (e ∙ ap (λ o. o.stepped) rooms)) ∙ g))
+  root_refused x r cs ns rs e g = turned_away _ r cs ns rs (go judged (sym (ap (λ (y : Stepped). y.answer) (e ∙ ap (λ o. o.stepped) rooms)) ∙ g))
     where
       go : (j : Judged Lowered) → (outcome_by s calls notices j).stepped.answer ≡ answer.Refused r → print_root text noticed s j ≡ printed_refusal r
       go (accepted l) i = let z : ◌≡◌ {A = ℕ} 0 1 = cc in absurd (omega arith)
       go (refused q) i = let z : q ≡ r = cc in ap printed_refusal z
 
   -- what is known where the root is accepted
-  root-accepted : (x : Stepped) → x ≡ (root_outcome text s root calls notices).stepped → x.answer ≡ answer.Accepted
+  root_accepted : (x : Stepped) → x ≡ (root_outcome text s root calls notices).stepped → x.answer ≡ answer.Accepted
       → (l : Lowered) × (judged ≡ accepted l) × (x.state ≡ moved s l)
   unfolding outcome_by
-  root-accepted x e g =
+  root_accepted x e g =
       let i = e ∙ ap (λ o. o.stepped) rooms in
       let k = go judged (sym (ap (λ (y : Stepped). y.answer) i) ∙ g) in
       (k.0, k.1, ap (λ (y : Stepped). y.state) i ∙ ap (λ j. (outcome_by s calls notices j).stepped.state) k.1)
@@ -84,45 +84,45 @@ module _ (text : List ℕ) (s : State) (root calls notices records : List ℕ) (
   module _ (x : Stepped) (w : Written) (e : x ≡ (root_outcome text s root calls notices).stepped) (g : x.answer ≡ answer.Accepted)
       (v : w ≡ records_answer (judge_records text x.state (length records))) where
     abbrev kept : (l : Lowered) × (judged ≡ accepted l) × (x.state ≡ moved s l)
-    kept = root-accepted x e g
+    kept = root_accepted x e g
 
     after : judge_records text x.state (length records) ≡ judge_records text (moved s kept.0) room
-    after = ap (λ (y : State). judge_records text y (length records)) kept.2 ∙ ap (judge_records text (moved s kept.0)) h.records-room
+    after = ap (λ (y : State). judge_records text y (length records)) kept.2 ∙ ap (judge_records text (moved s kept.0)) h.records_room
 
     prints : print_root text noticed s judged ≡ print_records noticed kept.0 (judge_records text (moved s kept.0) room)
     unfolding print_root
     prints = ap (print_root text noticed s) kept.1
 
-    pub records-refused : (r : Refusal) (cs ns rs : List ℕ) → w ≡ written.Refused r → Ends (print_root text noticed s judged) (ended.Refused r) cs ns rs
+    pub records_refused : (r : Refusal) (cs ns rs : List ℕ) → w ≡ written.Refused r → Ends (print_root text noticed s judged) (ended.Refused r) cs ns rs
     unfolding print_records
-    records-refused r cs ns rs k = turned-away _ r cs ns rs (prints ∙ ap (print_records noticed kept.0) (records-by w _ r (v ∙ ap records_answer after) k))
+    records_refused r cs ns rs k = turned_away _ r cs ns rs (prints ∙ ap (print_records noticed kept.0) (records_by w _ r (v ∙ ap records_answer after) k))
 
-    pub all-written : (n : ℕ) (cs ns rs : List ℕ) → w ≡ written.Accepted n → cs ≡ (root_outcome text s root calls notices).calls
+    pub all_written : (n : ℕ) (cs ns rs : List ℕ) → w ≡ written.Accepted n → cs ≡ (root_outcome text s root calls notices).calls
         → ns ≡ (root_outcome text s root calls notices).notices → rs ≡ records_target records (judge_records text x.state (length records))
         → Ends (print_root text noticed s judged) (ended.Written x.state.calls x.state.notices n) cs ns rs
     unfolding print_records shown most outcome_by moved records_target
-    all-written n cs ns rs k c d b =
+    all_written n cs ns rs k c d b =
         let l = kept.0 in
-        let y = records-all w _ n (v ∙ ap records_answer after) k in
+        let y = records_all w _ n (v ∙ ap records_answer after) k in
         let t = y.0 in
-        let taken = root-taken text s root room room l kept.1 in
+        let taken = root_taken text s root room room l kept.1 in
         let came = ap (outcome_by s calls notices) kept.1 in
         let i : x.state.calls ≡ s.calls + length l.calls = ap (λ (q : State). q.calls) kept.2 in
         let j : x.state.notices ≡ s.notices + length l.notices = ap (λ (q : State). q.notices) kept.2 in
-        let fit : length t ≤ room = records-taken text (moved s l) room t y.1 in
+        let fit : length t ≤ room = records_taken text (moved s l) room t y.1 in
         let c' : cs ≡ laid s.calls l.calls calls = c ∙ ap (λ o. o.calls) (rooms ∙ came) in
         let d' : ns ≡ laid s.notices l.notices notices = d ∙ ap (λ o. o.notices) (rooms ∙ came) in
         let b' : rs ≡ laid 0 t records = b ∙ ap (records_target records) (after ∙ y.1) in
         let p : take x.state.calls cs ≡ l.calls =
-        (λ ι. take (i ι) (c' ι)) ∙ take-laid s.calls l.calls calls (omega (arith, taken.calls-fit, h.calls-room)) ∙ ap
+        (λ ι. take (i ι) (c' ι)) ∙ take_laid s.calls l.calls calls (omega (arith, taken.calls_fit, h.calls_room)) ∙ ap
         (λ (m : ℕ). take m calls ++ l.calls) f in
         let q : take x.state.notices ns ≡ noticed ++ l.notices =
-        (λ ι. take (j ι) (d' ι)) ∙ take-laid s.notices l.notices notices (omega (arith, taken.notices-fit, h.notices-room)) in
+        (λ ι. take (j ι) (d' ι)) ∙ take_laid s.notices l.notices notices (omega (arith, taken.notices_fit, h.notices_room)) in
         let m : n ≡ 0 + length t = omega (arith, y.2) in
-        let u : take n rs ≡ t = (λ ι. take (m ι) (b' ι)) ∙ take-laid 0 t records (omega (arith, fit, h.records-room)) in
+        let u : take n rs ≡ t = (λ ι. take (m ι) (b' ι)) ∙ take_laid 0 t records (omega (arith, fit, h.records_room)) in
         record {
           shows = (λ ι. printed (p ι) (q ι) (u ι)) ∙ sym (prints ∙ ap (print_records noticed l) y.1);
-          within = (omega (arith, taken.calls-fit, i), omega (arith, taken.notices-fit, j), omega (arith, fit, y.2));
+          within = (omega (arith, taken.calls_fit, i), omega (arith, taken.notices_fit, j), omega (arith, fit, y.2));
         }
 
 -- ---- the opening
@@ -132,52 +132,52 @@ module _ (job text root notices : List ℕ) (h : length notices ≡ room) (x : S
   abbrev judged_opening : Judged Settings
   judged_opening = judge_opening text job room
 
-  opened-by : opened text job notices ≡ opened_by text notices judged_opening
+  opening_judged : opened text job notices ≡ opened_by text notices judged_opening
   unfolding opened
-  opened-by = ap (λ (k : ℕ). opened_by text notices (judge_opening text job k)) h
+  opening_judged = ap (λ (k : ℕ). opened_by text notices (judge_opening text job k)) h
 
-  pub job-refused : (r : Refusal) (cs ns rs : List ℕ) → x.answer ≡ answer.Refused r → Ends (jsxtape job text root) (ended.Refused r) cs ns rs
+  pub job_refused : (r : Refusal) (cs ns rs : List ℕ) → x.answer ≡ answer.Refused r → Ends (jsxtape job text root) (ended.Refused r) cs ns rs
   unfolding jsxtape print_opening opened_by
-  job-refused r cs ns rs g = turned-away _ r cs ns rs (go judged_opening (sym (ap (λ (y : Stepped). y.answer) (e ∙ ap (λ o. o.stepped) opened-by)) ∙ g))
+  job_refused r cs ns rs g = turned_away _ r cs ns rs (go judged_opening (sym (ap (λ (y : Stepped). y.answer) (e ∙ ap (λ o. o.stepped) opening_judged)) ∙ g))
     where
       go : (j : Judged Settings) → (opened_by text notices j).stepped.answer ≡ answer.Refused r → print_opening text root j ≡ printed_refusal r
       go (accepted s) i = let z : ◌≡◌ {A = ℕ} 0 1 = cc in absurd (omega arith)
       go (refused q) i = let z : q ≡ r = cc in ap printed_refusal z
 
-  job-accepted : x.answer ≡ answer.Accepted
+  job_accepted : x.answer ≡ answer.Accepted
       → (s : Settings) × (judged_opening ≡ accepted s) × (x.state ≡ open_state text s) × (after ≡ laid 0 (opening_bytes text s) notices)
   unfolding opened_by
-  job-accepted g =
-      let i = e ∙ ap (λ o. o.stepped) opened-by in
+  job_accepted g =
+      let i = e ∙ ap (λ o. o.stepped) opening_judged in
       let k = go judged_opening (sym (ap (λ (y : Stepped). y.answer) i) ∙ g) in (
         k.0,
         k.1,
         ap (λ (y : Stepped). y.state) i ∙ ap (λ j. (opened_by text notices j).stepped.state) k.1,
-        n ∙ ap (λ o. o.notices) opened-by ∙ ap (λ j. (opened_by text notices j).notices) k.1,
+        n ∙ ap (λ o. o.notices) opening_judged ∙ ap (λ j. (opened_by text notices j).notices) k.1,
       )
     where
       go : (j : Judged Settings) → (opened_by text notices j).stepped.answer ≡ answer.Accepted → (s : Settings) × (j ≡ accepted s)
       go (accepted s) i = (s, refl)
       go (refused q) i = let z : ◌≡◌ {A = ℕ} 0 1 = cc in absurd (omega arith)
 
-  pub job-fresh : x.answer ≡ answer.Accepted → x.state.calls ≡ 0
-  job-fresh g = ap (λ (s : State). s.calls) (job-accepted g).2
+  pub job_fresh : x.answer ≡ answer.Accepted → x.state.calls ≡ 0
+  job_fresh g = ap (λ (s : State). s.calls) (job_accepted g).2
 
   -- the opening's notices stand at the front of their target
-  job-noticed : (g : x.answer ≡ answer.Accepted) → take x.state.notices after ≡ opening_bytes text (job-accepted g).0
-  job-noticed g =
-      let k = job-accepted g in
+  job_noticed : (g : x.answer ≡ answer.Accepted) → take x.state.notices after ≡ opening_bytes text (job_accepted g).0
+  job_noticed g =
+      let k = job_accepted g in
       let b = opening_bytes text k.0 in
-      let fits = (opening-opens text job room k.0 k.1).fits in
-      (λ ι. take (k.2 ι).notices (k.3 ι)) ∙ front-laid b notices (omega (arith, fits, h))
+      let fits = (opening_opens text job room k.0 k.1).fits in
+      (λ ι. take (k.2 ι).notices (k.3 ι)) ∙ front_laid b notices (omega (arith, fits, h))
 
-  pub job-opened : (y : Ended) (cs ns rs : List ℕ) → x.answer ≡ answer.Accepted
+  pub job_opened : (y : Ended) (cs ns rs : List ℕ) → x.answer ≡ answer.Accepted
       → Ends (print_root text (take x.state.notices after) x.state (judge_root text x.state root room room)) y cs ns rs
       → Ends (jsxtape job text root) y cs ns rs
   unfolding jsxtape print_opening
-  job-opened y cs ns rs g c =
-      let k = job-accepted g in
-      let b = job-noticed g in
+  job_opened y cs ns rs g c =
+      let k = job_accepted g in
+      let b = job_noticed g in
       subst (λ (p : Printed). Ends p y cs ns rs)
       ((λ ι. print_root text (b ι) (k.2 ι) (judge_root text (k.2 ι) root room room)) ∙ sym (ap (print_opening text root) k.1)) c
 
@@ -188,4 +188,4 @@ pub parts : (e : Ended) (c n d : ℕ) {calls notices records : List ℕ} → e �
 unfolding most
 parts e c n d i m h =
     let w : (c ≤ room) × (n ≤ room) × (d ≤ room) = subst (λ (x : Ended). most x room) i m in
-    (omega (arith, w.0, h.calls-room), omega (arith, w.1, h.notices-room), omega (arith, w.2, h.records-room))
+    (omega (arith, w.0, h.calls_room), omega (arith, w.1, h.notices_room), omega (arith, w.2, h.records_room))

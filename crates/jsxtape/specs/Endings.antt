@@ -21,6 +21,6 @@ pub record Ends (p : Printed) (e : Ended) (calls notices records : List ℕ) : T
 
 -- "Each of its targets holds 65,536 bytes"
 pub record Rooms (calls notices records : List ℕ) : Type 0 where
-  pub calls-room : length calls ≡ room
-  pub notices-room : length notices ≡ room
-  pub records-room : length records ≡ room
+  pub calls_room : length calls ≡ room
+  pub notices_room : length notices ≡ room
+  pub records_room : length records ≡ room

@@ -9,7 +9,6 @@ ghost use Rattle.jsxtape.specs.Endings.{most, Rooms};
 
 use files::{CANNOT_WRITE, print_line, print_refusal, read_file};
 use job::{Ended, run_job};
-use std::alloc::AllocError;
 use std::io;
 use std::io::Write;
 use std::rt::Files;
@@ -49,9 +48,9 @@ fn run(
 ) -> io::Result<()>
     requires { Rooms calls.old notices.old records.old }
 {
-    let j = read_file(rt, "job.bin", job);
-    let t = read_file(rt, "text.bin", text);
-    let r = read_file(rt, "root.bin", root);
+    let j = read_file(rt, b"job.bin", job);
+    let t = read_file(rt, b"text.bin", text);
+    let r = read_file(rt, b"root.bin", root);
     let ended = run_job(
         &job[0..j],
         &text[0..t],
@@ -63,16 +62,15 @@ fn run(
     print_ended(&mut io::writer(rt), ended, calls, notices, records, line)
 }
 
-fn main(rt: HostRuntime) -> Result<(), AllocError> {
-    let alloc = rt.alloc();
-    let mut job = vec![in alloc; 0u8; 65536]?;
-    let mut text = vec![in alloc; 0u8; 65536]?;
-    let mut root = vec![in alloc; 0u8; 65536]?;
-    let mut calls = vec![in alloc; 0u8; 65536]?;
-    let mut notices = vec![in alloc; 0u8; 65536]?;
-    let mut records = vec![in alloc; 0u8; 65536]?;
+fn main(rt: HostRuntime) {
+    let mut job = [0u8; 65536];
+    let mut text = [0u8; 65536];
+    let mut root = [0u8; 65536];
+    let mut calls = [0u8; 65536];
+    let mut notices = [0u8; 65536];
+    let mut records = [0u8; 65536];
     // the longest of the three lines has three bytes for each of a full target, its word and a line feed
-    let mut line = vec![in alloc; 0u8; 196800]?;
+    let mut line = [0u8; 196800];
     let printed = run(
         &rt,
         &mut job,
@@ -86,5 +84,4 @@ fn main(rt: HostRuntime) -> Result<(), AllocError> {
     if printed.is_err() {
         let _ = rt.eprintln(CANNOT_WRITE);
     }
-    Ok(())
 }

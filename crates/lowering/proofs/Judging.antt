@@ -1,9 +1,10 @@
--- What lowering a root comes to (`rootOutcome` of definitions, Entries), by the code's tests.
---     text-long, tape-long, ill-formed, forged    refusals 1, 2 and 12
+-- What lowering a root comes to (`root_outcome` of definitions, Entries), by the code's tests.
+--     text_long, tape_long, ill_formed, forged    refusals 1, 2 and 12
 --     unforged, judged                            what is known, and what is left to judge, behind them
---     bad-tape, not-fitting                       the tape's own refusals, and 9, 10, 11
---     good-tape, fits                             a tape that reads, and what it says of a root's output that it fits
---     known, known-judged, going-after            where text and state are in order already, and that they are behind an accepted root
+--     bad_tape, not_fitting                       the tape's own refusals, and 9, 10, 11
+--     good_tape, fits                             a tape that reads, and what it says of a root's output that it fits
+--     equations                                   the three equations of an outcome
+--     known, known_judged, going_after            where text and state are in order already, and that they are behind an accepted root
 -- Assumes nothing.
 use mathlib.Core.Path.{◌≡◌, refl, sym, ap, ◌∙◌}
 use mathlib.Core.Bool.{true, false, not, ◌||◌}
@@ -25,64 +26,67 @@ use Rattle.definitions.specs.Judging.{Parsed, done, stop, Judged, accepted, refu
 use Rattle.definitions.specs.Tree.{Root}
 use Rattle.definitions.specs.Reading.{read_root}
 use Rattle.definitions.specs.States.{live, imports, sound, overfilled}
-use Rattle.definitions.specs.Entries.{Lowered, lowered_after, fitted, judge_root, moved, outcome_by, root_outcome}
-use Rattle.definitions.proofs.Verdicts.{past, past-at, length-laid, sound-parts, Taken, root-taken}
-use Rattle.definitions.proofs.Moving.{root-sound}
-use Rattle.definitions.proofs.Counting.{either-false}
+use Rattle.definitions.specs.Entries.{Lowered, Outcome, lowered_after, fitted, judge_root, moved, outcome_by, root_outcome}
+use Rattle.definitions.proofs.Verdicts.{past, past_at, length_laid, sound_parts, Taken, root_taken}
+use Rattle.definitions.proofs.Moving.{root_sound}
+use Rattle.definitions.proofs.Counting.{either_false}
 use Rattle.root_check.specs.declared.check.Checked.TheVariants as checks
 use Rattle.root_check.specs.Checking.{checked}
 use Rattle.lowering.specs.Steps.{Text, Going, Unforged, judge_tape, tape_outcome, answer_of, Comes}
+
+pub equations : {o : Outcome} {t : Stepped} {cs ns : List ℕ} → Comes o t cs ns → (t ≡ o.stepped) × ((cs ≡ o.calls) × (ns ≡ o.notices))
+equations c = (c.answered, (c.called, c.noticed))
 
 -- ---- what a refusal comes to
 
 abbrev pub away : State → Refusal → Stepped
 away s r = record { answer = answer.Refused r; state = s }
 
-turned-away : (s : State) (cs ns : List ℕ) {j : Judged Lowered} {t : Stepped} {r : Refusal} → j ≡ refused r → t ≡ away s r → Comes (outcome_by s cs ns j) t cs ns
+turned_away : (s : State) (cs ns : List ℕ) {j : Judged Lowered} {t : Stepped} {r : Refusal} → j ≡ refused r → t ≡ away s r → Comes (outcome_by s cs ns j) t cs ns
 unfolding outcome_by
-turned-away s cs ns e f = rw e (record { answered = f; called = refl; noticed = refl })
+turned_away s cs ns e f = rw e (record { answered = f; called = refl; noticed = refl })
 
 -- ---- by the tests before the tape is read
 
 module _ (text : List ℕ) (s : State) (tape cs ns : List ℕ) {t : Stepped} where
-  pub text-long : 65535 < length text → t ≡ away s refusal.TooLong → Comes (root_outcome text s tape cs ns) t cs ns
+  pub text_long : 65535 < length text → t ≡ away s refusal.TooLong → Comes (root_outcome text s tape cs ns) t cs ns
   unfolding root_outcome judge_root refuse
-  text-long h e = turned-away s cs ns (rw (lt-ltb 65535 (length text) h)) e
+  text_long h e = turned_away s cs ns (rw (lt-ltb 65535 (length text) h)) e
 
-  pub tape-long : length text ≤ 65535 → 65535 < length tape → t ≡ away s refusal.TooLong → Comes (root_outcome text s tape cs ns) t cs ns
+  pub tape_long : length text ≤ 65535 → 65535 < length tape → t ≡ away s refusal.TooLong → Comes (root_outcome text s tape cs ns) t cs ns
   unfolding root_outcome judge_root refuse
-  tape-long h k e = turned-away s cs ns (rw (le-ltb 65535 (length text) h, lt-ltb 65535 (length tape) k)) e
+  tape_long h k e = turned_away s cs ns (rw (le-ltb 65535 (length text) h, lt-ltb 65535 (length tape) k)) e
 
-  pub ill-formed : (p : ℕ) → length text ≤ 65535 → length tape ≤ 65535 → first_ill text ≡ At p → t ≡ away s (refusal.NotUtf8 p)
+  pub ill_formed : (p : ℕ) → length text ≤ 65535 → length tape ≤ 65535 → first_ill text ≡ At p → t ≡ away s (refusal.NotUtf8 p)
       → Comes (root_outcome text s tape cs ns) t cs ns
   unfolding root_outcome judge_root refuse refuse_at
-  ill-formed p h k f e = turned-away s cs ns (rw (le-ltb 65535 (length text) h, le-ltb 65535 (length tape) k, f)) e
+  ill_formed p h k f e = turned_away s cs ns (rw (le-ltb 65535 (length text) h, le-ltb 65535 (length tape) k, f)) e
 
 module _ (text : List ℕ) (s : State) (tape cs ns : List ℕ) (x : Text text tape) where
   pub forged : {t : Stepped} → (not (sound text s) || overfilled s (length cs) (length ns)) ≡ true → t ≡ away s refusal.Forged
       → Comes (root_outcome text s tape cs ns) t cs ns
   unfolding root_outcome judge_root refuse refuse_at
-  forged f e = turned-away s cs ns (rw (le-ltb 65535 (length text) x.short, le-ltb 65535 (length tape) x.tape-short, x.formed, f)) e
+  forged f e = turned_away s cs ns (rw (le-ltb 65535 (length text) x.short, le-ltb 65535 (length tape) x.tape_short, x.formed, f)) e
 
   module _ (f : (not (sound text s) || overfilled s (length cs) (length ns)) ≡ false) where
     pub unforged : Unforged text s tape (length cs) (length ns)
     unforged =
-        let g = either-false (not (sound text s)) (overfilled s (length cs) (length ns)) f in
-        let h = either-false (ltb (length cs) s.calls) (ltb (length ns) s.notices) g.1 in
+        let g = either_false (not (sound text s)) (overfilled s (length cs) (length ns)) f in
+        let h = either_false (ltb (length cs) s.calls) (ltb (length ns) s.notices) g.1 in
         record {
           spelled = x;
           bore = not-false (sound text s) g.0;
-          calls-within = ltb-false (length cs) s.calls h.0;
-          notices-within = ltb-false (length ns) s.notices h.1;
+          calls_within = ltb-false (length cs) s.calls h.0;
+          notices_within = ltb-false (length ns) s.notices h.1;
         }
 
     pub judged : {t : Stepped} {cs' ns' : List ℕ} → Comes (tape_outcome text s tape cs ns) t cs' ns' → Comes (root_outcome text s tape cs ns) t cs' ns'
     unfolding root_outcome tape_outcome judge_root judge_tape refuse refuse_at
-    judged c = rw (le-ltb 65535 (length text) x.short, le-ltb 65535 (length tape) x.tape-short, x.formed, f) c
+    judged c = rw (le-ltb 65535 (length text) x.short, le-ltb 65535 (length tape) x.tape_short, x.formed, f) c
 
 -- a state that is not forged has no more than eight records
-pub few-records : {text : List ℕ} {s : State} {tape : List ℕ} {call_room notice_room : ℕ} → Unforged text s tape call_room notice_room → s.count ≤ 8
-few-records {text} {s} u = (sound-parts text s u.bore).few
+pub few_records : {text : List ℕ} {s : State} {tape : List ℕ} {call_room notice_room : ℕ} → Unforged text s tape call_room notice_room → s.count ≤ 8
+few_records {text} {s} u = (sound_parts text s u.bore).few
 
 -- ---- the tape
 
@@ -91,31 +95,31 @@ unfolding checked read
 stopped (done a u) k f p e = let z : ◌≡◌ {A = ℕ} 0 1 = cc in absurd (omega arith)
 stopped (stop g q) k f p e = let y : g ≡ f = cc in let z : q ≡ p = cc in λ ι. refused (refusal.Tape (y ι) (z ι))
 
-was-refused : (j : Judged Lowered) {r : Refusal} → answer_of j ≡ answer.Refused r → j ≡ refused r
+was_refused : (j : Judged Lowered) {r : Refusal} → answer_of j ≡ answer.Refused r → j ≡ refused r
 unfolding answer_of
-was-refused (accepted l) e = let z : ◌≡◌ {A = ℕ} 0 1 = cc in absurd (omega arith)
-was-refused (refused r) e = cc
+was_refused (accepted l) e = let z : ◌≡◌ {A = ℕ} 0 1 = cc in absurd (omega arith)
+was_refused (refused r) e = cc
 
-was-accepted : (j : Judged Lowered) → answer_of j ≡ answer.Accepted → (l : Lowered) × (j ≡ accepted l)
+was_accepted : (j : Judged Lowered) → answer_of j ≡ answer.Accepted → (l : Lowered) × (j ≡ accepted l)
 unfolding answer_of
-was-accepted (accepted l) e = (l, refl)
-was-accepted (refused r) e = let z : ◌≡◌ {A = ℕ} 0 1 = cc in absurd (omega arith)
+was_accepted (accepted l) e = (l, refl)
+was_accepted (refused r) e = let z : ◌≡◌ {A = ℕ} 0 1 = cc in absurd (omega arith)
 
 module _ (text : List ℕ) (s : State) (tape cs ns : List ℕ) {t : Stepped} where
-  pub bad-tape : (f : Fault) (p : ℕ) → checked (read_root text tape) ≡ checks.Bad f p → t ≡ away s (refusal.Tape f p)
+  pub bad_tape : (f : Fault) (p : ℕ) → checked (read_root text tape) ≡ checks.Bad f p → t ≡ away s (refusal.Tape f p)
       → Comes (tape_outcome text s tape cs ns) t cs ns
   unfolding tape_outcome judge_tape
-  bad-tape f p e g = turned-away s cs ns (stopped (read_root text tape) _ f p e) g
+  bad_tape f p e g = turned_away s cs ns (stopped (read_root text tape) _ f p e) g
 
-  pub not-fitting : {r : Refusal} → answer_of (judge_tape text s tape (length cs) (length ns)) ≡ answer.Refused r → t ≡ away s r
+  pub not_fitting : {r : Refusal} → answer_of (judge_tape text s tape (length cs) (length ns)) ≡ answer.Refused r → t ≡ away s r
       → Comes (tape_outcome text s tape cs ns) t cs ns
   unfolding tape_outcome
-  not-fitting e g = turned-away s cs ns (was-refused _ e) g
+  not_fitting e g = turned_away s cs ns (was_refused _ e) g
 
-pub good-tape : (text : List ℕ) (s : State) (tape : List ℕ) (call_room notice_room : ℕ) (o : Root) (u : ℕ) → read_root text tape ≡ done o u
+pub good_tape : (text : List ℕ) (s : State) (tape : List ℕ) (call_room notice_room : ℕ) (o : Root) (u : ℕ) → read_root text tape ≡ done o u
     → judge_tape text s tape call_room notice_room ≡ fitted s call_room notice_room (lowered_after text s.settings (imports (live s)) o)
 unfolding judge_tape read
-good-tape text s tape call_room notice_room o u e = rw e
+good_tape text s tape call_room notice_room o u e = rw e
 
 -- ---- what fits
 
@@ -124,7 +128,7 @@ pub fits : (s : State) (call_room notice_room : ℕ) (l : Lowered) → answer_of
     × (fitted s call_room notice_room l ≡ accepted l)
 unfolding fitted
 fits s call_room notice_room l e =
-    let w = was-accepted _ e in
+    let w = was_accepted _ e in
     let f = past _ _ _ _ w.1 in
     let g = past _ _ _ _ f.1 in
     let h = past _ _ _ _ g.1 in
@@ -134,16 +138,16 @@ fits s call_room notice_room l e =
 
 module _ (text : List ℕ) (s : State) (tape cs ns : List ℕ) (g : Going text s (length cs) (length ns)) (short : length tape ≤ 65535) where
   in_order : Text text tape
-  in_order = record { short = g.short; tape-short = short; formed = g.formed }
+  in_order = record { short = g.short; tape_short = short; formed = g.formed }
 
-  not-forged : (not (sound text s) || overfilled s (length cs) (length ns)) ≡ false
-  not-forged = rw (g.bore, le-ltb (length cs) s.calls g.calls-within, le-ltb (length ns) s.notices g.notices-within)
+  not_forged : (not (sound text s) || overfilled s (length cs) (length ns)) ≡ false
+  not_forged = rw (g.bore, le-ltb (length cs) s.calls g.calls_within, le-ltb (length ns) s.notices g.notices_within)
 
   pub known : Unforged text s tape (length cs) (length ns)
-  known = unforged text s tape cs ns in_order not-forged
+  known = unforged text s tape cs ns in_order not_forged
 
-  pub known-judged : {t : Stepped} {cs' ns' : List ℕ} → Comes (tape_outcome text s tape cs ns) t cs' ns' → Comes (root_outcome text s tape cs ns) t cs' ns'
-  known-judged c = judged text s tape cs ns in_order not-forged c
+  pub known_judged : {t : Stepped} {cs' ns' : List ℕ} → Comes (tape_outcome text s tape cs ns) t cs' ns' → Comes (root_outcome text s tape cs ns) t cs' ns'
+  known_judged c = judged text s tape cs ns in_order not_forged c
 
 -- behind an accepted root they are
 going_on : (text : List ℕ) (s : State) (tape cs ns : List ℕ) → (root_outcome text s tape cs ns).stepped.answer ≡ answer.Accepted
@@ -154,19 +158,19 @@ going_on text s tape cs ns e = go (judge_root text s tape (length cs) (length ns
     go : (j : Judged Lowered) → judge_root text s tape (length cs) (length ns) ≡ j → (outcome_by s cs ns j).stepped.answer ≡ answer.Accepted
         → Going text (outcome_by s cs ns j).stepped.state (length (outcome_by s cs ns j).calls) (length (outcome_by s cs ns j).notices)
     go (accepted l) f h =
-        let t : Taken text s tape (length cs) (length ns) l = root-taken text s tape (length cs) (length ns) l f in
+        let t : Taken text s tape (length cs) (length ns) l = root_taken text s tape (length cs) (length ns) l f in
         let long = past _ _ _ _ f in
-        let ill = past-at _ _ _ _ long.1 in
+        let ill = past_at _ _ _ _ long.1 in
         record {
-          short = ltb-false 65535 (length text) (either-false (ltb 65535 (length text)) (ltb 65535 (length tape)) long.0).0;
+          short = ltb-false 65535 (length text) (either_false (ltb 65535 (length text)) (ltb 65535 (length tape)) long.0).0;
           formed = ill.0;
-          bore = root-sound text s tape (length cs) (length ns) l f;
-          calls-within = rw (length-laid s.calls l.calls cs t.calls-fit) t.calls-fit;
-          notices-within = rw (length-laid s.notices l.notices ns t.notices-fit) t.notices-fit;
+          bore = root_sound text s tape (length cs) (length ns) l f;
+          calls_within = rw (length_laid s.calls l.calls cs t.calls_fit) t.calls_fit;
+          notices_within = rw (length_laid s.notices l.notices ns t.notices_fit) t.notices_fit;
         }
     go (refused r) f h = let z : ◌≡◌ {A = ℕ} 0 1 = cc in absurd (omega arith)
 
-pub going-after : (text : List ℕ) (s : State) (tape cs ns : List ℕ) {t : Stepped} {cs' ns' : List ℕ} → Comes (root_outcome text s tape cs ns) t cs' ns'
+pub going_after : (text : List ℕ) (s : State) (tape cs ns : List ℕ) {t : Stepped} {cs' ns' : List ℕ} → Comes (root_outcome text s tape cs ns) t cs' ns'
     → t.answer ≡ answer.Accepted → Going text t.state (length cs') (length ns')
-going-after text s tape cs ns {t} c e =
+going_after text s tape cs ns {t} c e =
     rw (c.answered, c.called, c.noticed) (going_on text s tape cs ns (sym (ap (λ (x : Stepped). x.answer) c.answered) ∙ e))

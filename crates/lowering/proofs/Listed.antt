@@ -1,10 +1,10 @@
--- Lists of roots (`rootsIn` of specs/RootLists) as the loop over them goes: what is ahead at a place, and what is left of a series of roots there.
---     cut-length, cut-root, whole             what is ahead, by the code's tests
---     root-short                              a root of a list is no longer than a tape may be
+-- Lists of roots (`roots_in` of specs/RootLists) as the loop over them goes: what is ahead at a place, and what is left of a series of roots there.
+--     cut_length, cut_root, whole             what is ahead, by the code's tests
+--     root_short                              a root of a list is no longer than a tape may be
 --     one_more                                what a root's outcome makes of a world
---     Left, left-all, left-root, left_end     the series from a place of the list on
---     Row, row-all, row-end, row-refused, row-root     the same up to the first root that is refused
---     list-long, list-ill, list-forged, list-going, list-tested     text and state before the roots, by the code's tests
+--     Left, left_all, left_root, left_end     the series from a place of the list on
+--     Row, row_all, row_end, row_refused, row_root     the same up to the first root that is refused
+--     list_long, list_ill, list_forged, list_going, list_tested     text and state before the roots, by the code's tests
 --     run_is                                  what a run comes to; what it leaves is a series of roots
 -- Assumes nothing.
 use mathlib.Core.Path.{◌≡◌, refl, sym, ap, subst, ◌∙◌}
@@ -16,7 +16,7 @@ use native.Mathlib.Nat.{add-zero}
 use lib.ListN.{length, take, drop, get_or, length-drop}
 use lib.Seq.{drop-drop, length-take-le}
 use borrow.Author.Tests.{lt-ltb, le-ltb}
-use Rattle.text.proofs.Lists.{drop-one}
+use Rattle.text.proofs.Lists.{drop_one}
 use Rattle.tape.specs.Numbers.{u16_at}
 use Rattle.text.specs.declared.bytes.Found.{Found}
 use Rattle.text.specs.declared.bytes.Found.TheVariants.{At, Nothing}
@@ -33,7 +33,7 @@ use Rattle.definitions.specs.Series.{World, opening, outcome_in, next, series}
 use Rattle.definitions.specs.declared.options.Settings.{Settings}
 use Rattle.definitions.specs.Opening.{judge_opening}
 use Rattle.definitions.specs.Claim.{Kept}
-use Rattle.definitions.proofs.RootSeries.{refused-same}
+use Rattle.definitions.proofs.RootSeries.{refused_same}
 use Rattle.definitions.proofs.Demand3.{demand3}
 use Rattle.lowering.specs.declared.series.Ahead.{Ahead}
 use Rattle.lowering.specs.declared.series.Ahead.TheVariants.{Root, End}
@@ -51,19 +51,19 @@ short (a ∷ []) most h = refl
 short (a ∷ b ∷ l) most h = absurd (omega arith)
 
 module _ (l : List ℕ) (at : ℕ) where
-  pub cut-length : length l - at < 2 → (most : ℕ) → roots_from (suc most) (drop at l) ≡ roots_by most l End
+  pub cut_length : length l - at < 2 → (most : ℕ) → roots_from (suc most) (drop at l) ≡ roots_by most l End
   unfolding roots_by
-  cut-length h most = short (drop at l) most (omega (arith, length-drop at l))
+  cut_length h most = short (drop at l) most (omega (arith, length-drop at l))
 
   module _ (h : at + 2 ≤ length l) where
     two : drop at l ≡ get_or l at 0 ∷ get_or l (at + 1) 0 ∷ drop (at + 2) l
     two =
         let e : at + 1 + 1 ≡ at + 2 = omega arith in
-        drop-one l at (omega arith) ∙ ap (λ (u : List ℕ). get_or l at 0 ∷ u) (drop-one l (at + 1) (omega arith) ∙ ap (λ (i : ℕ). get_or l (at + 1) 0 ∷ drop i l) e)
+        drop_one l at (omega arith) ∙ ap (λ (u : List ℕ). get_or l at 0 ∷ u) (drop_one l (at + 1) (omega arith) ∙ ap (λ (i : ℕ). get_or l (at + 1) 0 ∷ drop i l) e)
 
-    pub cut-root : (n : ℕ) → n ≡ u16_at l at → length l - (at + 2) < n → (most : ℕ) → roots_from (suc most) (drop at l) ≡ roots_by most l End
+    pub cut_root : (n : ℕ) → n ≡ u16_at l at → length l - (at + 2) < n → (most : ℕ) → roots_from (suc most) (drop at l) ≡ roots_by most l End
     unfolding roots_from roots_by
-    cut-root n e k most =
+    cut_root n e k most =
         rw (two, ← e, lt-ltb (length (drop (at + 2) l)) n (omega (arith, length-drop (at + 2) l)))
 
     pub whole : (n : ℕ) → n ≡ u16_at l at → n ≤ length l - (at + 2) → (most : ℕ)
@@ -73,8 +73,8 @@ module _ (l : List ℕ) (at : ℕ) where
         let d : at + 2 + n - (at + 2) ≡ n = omega arith in
         rw (two, ← e, le-ltb (length (drop (at + 2) l)) n (omega (arith, length-drop (at + 2) l)), d, drop-drop n (at + 2) l)
 
-pub root-short : (l : List ℕ) (at a e : ℕ) → Stands l at (Root a e) → length (take (e - a) (drop a l)) ≤ 65535
-root-short l at a e s = omega (arith, length-take-le (e - a) (drop a l) (omega (arith, length-drop a l, s)), s)
+pub root_short : (l : List ℕ) (at a e : ℕ) → Stands l at (Root a e) → length (take (e - a) (drop a l)) ≤ 65535
+root_short l at a e s = omega (arith, length-take-le (e - a) (drop a l) (omega (arith, length-drop a l, s)), s)
 
 -- ---- a root more
 
@@ -92,9 +92,9 @@ pub record Left (text l : List ℕ) (begun : World) (at : ℕ) (w : World) : Typ
   pub enough : length l ≤ most + at
   pub same : series text begun (roots_in l) ≡ series text w (roots_from most (drop at l))
 
-pub left-all : (text l : List ℕ) (w : World) → Left text l w 0 w
+pub left_all : (text l : List ℕ) (w : World) → Left text l w 0 w
 unfolding roots_in
-left-all text l w = record { within = omega arith; most = length l; enough = omega arith; same = refl }
+left_all text l w = record { within = omega arith; most = length l; enough = omega arith; same = refl }
 
 module _ {text l : List ℕ} {begun : World} {at : ℕ} {w : World} (left : Left text l begun at w) {r : Ahead}
     (ahead : (most : ℕ) → roots_from (suc most) (drop at l) ≡ roots_by most l r) where
@@ -106,9 +106,9 @@ module _ {text l : List ℕ} {begun : World} {at : ℕ} {w : World} (left : Left
       go zero = refl
       go (suc most) = rw (ahead most, e)
 
-  pub left-root : {a e : ℕ} {w' : World} → r ≡ Root a e → Stands l at r → w' ≡ next text w (take (e - a) (drop a l)) → Left text l begun e w'
+  pub left_root : {a e : ℕ} {w' : World} → r ≡ Root a e → Stands l at r → w' ≡ next text w (take (e - a) (drop a l)) → Left text l begun e w'
   unfolding roots_by series
-  left-root {a} {e} {w'} f stands step =
+  left_root {a} {e} {w'} f stands step =
       subst (λ (x : World). Left text l begun e x) (sym step) (go left.most left.enough left.same (rw f at stands))
     where
       go : (most : ℕ) → length l ≤ most + at → series text begun (roots_in l) ≡ series text w (roots_from most (drop at l)) → Stands l at (Root a e)
@@ -132,9 +132,9 @@ pub record Row (text l : List ℕ) (begun : World) (at n : ℕ) (w : World) : Ty
   pub whole : at + list_bytes (roots_from most (drop at l)) ≡ list_bytes (roots_in l)
   pub same : run_tested text begun l ≡ behind n (run_of text w (ending (length l) (list_bytes (roots_in l))) (roots_from most (drop at l)))
 
-pub row-all : (text l : List ℕ) (w : World) → Row text l w 0 0 w
+pub row_all : (text l : List ℕ) (w : World) → Row text l w 0 0 w
 unfolding roots_in run_tested
-row-all text l w =
+row_all text l w =
     let e = ending (length l) (list_bytes (roots_in l)) in
     let z : 0 + (run_of text w e (roots_from (length l) l)).taken ≡ (run_of text w e (roots_from (length l) l)).taken = omega arith in
     record {
@@ -148,9 +148,9 @@ row-all text l w =
 
 module _ {text l : List ℕ} {begun : World} {at n : ℕ} {w : World} (row : Row text l begun at n w) {r : Ahead}
     (ahead : (most : ℕ) → roots_from (suc most) (drop at l) ≡ roots_by most l r) where
-  pub row-end : r ≡ End → run_tested text begun l ≡ record { answer = ending (length l) at; world = w; taken = n }
+  pub row_end : r ≡ End → run_tested text begun l ≡ record { answer = ending (length l) at; world = w; taken = n }
   unfolding roots_from roots_by run_of list_bytes
-  row-end e = row.same ∙ go row.most row.whole
+  row_end e = row.same ∙ go row.most row.whole
     where
       go : (most : ℕ) → at + list_bytes (roots_from most (drop at l)) ≡ list_bytes (roots_in l)
           → behind n (run_of text w (ending (length l) (list_bytes (roots_in l))) (roots_from most (drop at l)))
@@ -169,9 +169,9 @@ module _ {text l : List ℕ} {begun : World} {at n : ℕ} {w : World} (row : Row
     here : Stands l at (Root a e)
     here = rw f at stands
 
-    ahead-root : (most : ℕ) → roots_from (suc most) (drop at l) ≡ take (e - a) (drop a l) ∷ roots_from most (drop e l)
+    ahead_root : (most : ℕ) → roots_from (suc most) (drop at l) ≡ take (e - a) (drop a l) ∷ roots_from most (drop e l)
     unfolding roots_by
-    ahead-root most = ahead most ∙ ap (roots_by most l) f
+    ahead_root most = ahead most ∙ ap (roots_by most l) f
 
     -- the run over the root that is ahead
     over : (most : ℕ) → behind n (run_of text w (ending (length l) (list_bytes (roots_in l))) (roots_from (suc most) (drop at l)))
@@ -179,14 +179,14 @@ module _ {text l : List ℕ} {begun : World} {at n : ℕ} {w : World} (row : Row
         (run_by (outcome_in text w (take (e - a) (drop a l))).stepped.answer w
         (run_of text (next text w (take (e - a) (drop a l))) (ending (length l) (list_bytes (roots_in l))) (roots_from most (drop e l))))
     unfolding run_of
-    over most = ap (λ (x : List (List ℕ)). behind n (run_of text w (ending (length l) (list_bytes (roots_in l))) x)) (ahead-root most)
+    over most = ap (λ (x : List (List ℕ)). behind n (run_of text w (ending (length l) (list_bytes (roots_in l))) x)) (ahead_root most)
 
-    pub row-refused : {x : Refusal} {w' : World} → (outcome_in text w (take (e - a) (drop a l))).stepped.answer ≡ Refused x
+    pub row_refused : {x : Refusal} {w' : World} → (outcome_in text w (take (e - a) (drop a l))).stepped.answer ≡ Refused x
         → w' ≡ next text w (take (e - a) (drop a l)) → run_tested text begun l ≡ record { answer = Refused x; world = w'; taken = n }
     unfolding run_by
-    row-refused {x} {w'} g step =
+    row_refused {x} {w'} g step =
         row.same ∙ go row.most row.enough
-        ∙ sym (ap (λ (v : World). record { answer = Refused x; world = v; taken = n }) (step ∙ refused-same text w (take (e - a) (drop a l)) x g))
+        ∙ sym (ap (λ (v : World). record { answer = Refused x; world = v; taken = n }) (step ∙ refused_same text w (take (e - a) (drop a l)) x g))
       where
         go : (most : ℕ) → length l ≤ most + at
             → behind n (run_of text w (ending (length l) (list_bytes (roots_in l))) (roots_from most (drop at l))) ≡ record { answer = Refused x; world = w; taken = n }
@@ -198,10 +198,10 @@ module _ {text l : List ℕ} {begun : World} {at n : ℕ} {w : World} (row : Row
             g
             ∙ λ ι. record { answer = Refused x; world = w; taken = add-zero n ι }
 
-    pub row-root : {w' : World} → (outcome_in text w (take (e - a) (drop a l))).stepped.answer ≡ Accepted → w' ≡ next text w (take (e - a) (drop a l))
+    pub row_root : {w' : World} → (outcome_in text w (take (e - a) (drop a l))).stepped.answer ≡ Accepted → w' ≡ next text w (take (e - a) (drop a l))
         → Row text l begun e (n + 1) w'
     unfolding run_by list_bytes
-    row-root {w'} g step = subst (λ (x : World). Row text l begun e (n + 1) x) (sym step) (go row.most row.enough row.whole row.same)
+    row_root {w'} g step = subst (λ (x : World). Row text l begun e (n + 1) x) (sym step) (go row.most row.enough row.whole row.same)
       where
         go : (most : ℕ) → length l ≤ most + at → at + list_bytes (roots_from most (drop at l)) ≡ list_bytes (roots_in l)
             → run_tested text begun l ≡ behind n (run_of text w (ending (length l) (list_bytes (roots_in l))) (roots_from most (drop at l)))
@@ -211,7 +211,7 @@ module _ {text l : List ℕ} {begun : World} {at n : ℕ} {w : World} (row : Row
             let rest = run_of text (next text w (take (e - a) (drop a l))) (ending (length l) (list_bytes (roots_in l))) (roots_from most (drop e l)) in
             let long : length (take (e - a) (drop a l)) ≡ e - a = length-take-le (e - a) (drop a l) (omega (arith, length-drop a l, here)) in
             let bytes : list_bytes (roots_from (suc most) (drop at l)) ≡ 2 + length (take (e - a) (drop a l)) + list_bytes (roots_from most (drop e l)) =
-            ap list_bytes (ahead-root most) in
+            ap list_bytes (ahead_root most) in
             let count : n + suc rest.taken ≡ n + 1 + rest.taken = omega arith in
             record {
               within = omega (arith, here);
@@ -223,11 +223,11 @@ module _ {text l : List ℕ} {begun : World} {at n : ℕ} {w : World} (row : Row
             }
 
 -- what a run leaves is a series of the roots that it took
-run-series : (text : List ℕ) (w : World) (end : Answer) (roots : List (List ℕ))
+run_series : (text : List ℕ) (w : World) (end : Answer) (roots : List (List ℕ))
     → (run_of text w end roots).world ≡ series text w (take (run_of text w end roots).taken roots)
 unfolding run_of run_by series
-run-series text w end [] = refl
-run-series text w end (t ∷ ts) = go (outcome_in text w t).stepped.answer (run-series text (next text w t) end ts)
+run_series text w end [] = refl
+run_series text w end (t ∷ ts) = go (outcome_in text w t).stepped.answer (run_series text (next text w t) end ts)
   where
     go : (a : Answer) → (run_of text (next text w t) end ts).world ≡ series text (next text w t) (take (run_of text (next text w t) end ts).taken ts)
         → (run_by a w (run_of text (next text w t) end ts)).world ≡ series text w (take (run_by a w (run_of text (next text w t) end ts)).taken (t ∷ ts))
@@ -236,77 +236,77 @@ run-series text w end (t ∷ ts) = go (outcome_in text w t).stepped.answer (run-
 
 -- ---- text and state before the roots
 
-abbrev pub world : State → List ℕ → List ℕ → World
-world s calls notices = record { state = s; calls = calls; notices = notices }
+abbrev pub begun : State → List ℕ → List ℕ → World
+begun s calls notices = record { state = s; calls = calls; notices = notices }
 
 -- what is left is a series of the roots that were taken, refused before them or not
 abbrev Leaves : List ℕ → World → List (List ℕ) → Run → Type 0
 Leaves text w roots r = r.world ≡ series text w (take r.taken roots)
 
 module _ (text : List ℕ) (w : World) (roots : List (List ℕ)) where
-  leaves-refuse : (b : Bool) (x : Refusal) (j : Judged Run) → Leaves text w roots (judged_run w j) → Leaves text w roots (judged_run w (refuse b x j))
+  leaves_refuse : (b : Bool) (x : Refusal) (j : Judged Run) → Leaves text w roots (judged_run w j) → Leaves text w roots (judged_run w (refuse b x j))
   unfolding refuse judged_run series
-  leaves-refuse true x j h = refl
-  leaves-refuse false x j h = h
+  leaves_refuse true x j h = refl
+  leaves_refuse false x j h = h
 
-  leaves-refuse-at : (f : Found) (x : ℕ → Refusal) (j : Judged Run) → Leaves text w roots (judged_run w j) → Leaves text w roots (judged_run w (refuse_at f x j))
+  leaves_refuse_at : (f : Found) (x : ℕ → Refusal) (j : Judged Run) → Leaves text w roots (judged_run w j) → Leaves text w roots (judged_run w (refuse_at f x j))
   unfolding refuse_at judged_run series
-  leaves-refuse-at (At p) x j h = refl
-  leaves-refuse-at Nothing x j h = h
+  leaves_refuse_at (At p) x j h = refl
+  leaves_refuse_at Nothing x j h = h
 
-pub run-leaves : (text : List ℕ) (w : World) (l : List ℕ) → Leaves text w (roots_in l) (run text w l)
+pub run_leaves : (text : List ℕ) (w : World) (l : List ℕ) → Leaves text w (roots_in l) (run text w l)
 unfolding run judge_list run_tested judged_run
-run-leaves text w l =
-    leaves-refuse text w (roots_in l) _ _ _
-    (leaves-refuse-at text w (roots_in l) _ _ _
-    (leaves-refuse text w (roots_in l) _ _ _ (run-series text w (ending (length l) (list_bytes (roots_in l))) (roots_in l))))
+run_leaves text w l =
+    leaves_refuse text w (roots_in l) _ _ _
+    (leaves_refuse_at text w (roots_in l) _ _ _
+    (leaves_refuse text w (roots_in l) _ _ _ (run_series text w (ending (length l) (list_bytes (roots_in l))) (roots_in l))))
 
 -- by the code's tests
 module _ (text : List ℕ) (s : State) (calls notices l : List ℕ) where
-  pub list-long : {r : Listed} → 65535 < length text → r ≡ record { answer = Refused refusal.TooLong; state = s; taken = 0 }
-      → ran r calls notices ≡ run text (world s calls notices) l
+  pub list_long : {r : Listed} → 65535 < length text → r ≡ record { answer = Refused refusal.TooLong; state = s; taken = 0 }
+      → ran r calls notices ≡ run text (begun s calls notices) l
   unfolding run judge_list judged_run refuse
-  list-long h e = rw (e, lt-ltb 65535 (length text) h)
+  list_long h e = rw (e, lt-ltb 65535 (length text) h)
 
-  pub list-ill : {r : Listed} (p : ℕ) → length text ≤ 65535 → first_ill text ≡ At p → r ≡ record { answer = Refused (refusal.NotUtf8 p); state = s; taken = 0 }
-      → ran r calls notices ≡ run text (world s calls notices) l
+  pub list_ill : {r : Listed} (p : ℕ) → length text ≤ 65535 → first_ill text ≡ At p → r ≡ record { answer = Refused (refusal.NotUtf8 p); state = s; taken = 0 }
+      → ran r calls notices ≡ run text (begun s calls notices) l
   unfolding run judge_list judged_run refuse refuse_at
-  list-ill p h f e = rw (e, le-ltb 65535 (length text) h, f)
+  list_ill p h f e = rw (e, le-ltb 65535 (length text) h, f)
 
   module _ (short : length text ≤ 65535) (formed : first_ill text ≡ Nothing) where
-    pub list-forged : {r : Listed} → (not (sound text s) || overfilled s (length calls) (length notices)) ≡ true
+    pub list_forged : {r : Listed} → (not (sound text s) || overfilled s (length calls) (length notices)) ≡ true
         → r ≡ record { answer = Refused refusal.Forged; state = s; taken = 0 }
-        → ran r calls notices ≡ run text (world s calls notices) l
+        → ran r calls notices ≡ run text (begun s calls notices) l
     unfolding run judge_list judged_run refuse refuse_at
-    list-forged f e = rw (e, le-ltb 65535 (length text) short, formed, f)
+    list_forged f e = rw (e, le-ltb 65535 (length text) short, formed, f)
 
     module _ (f : (not (sound text s) || overfilled s (length calls) (length notices)) ≡ false) where
-      pub list-going : Going text s (length calls) (length notices)
-      list-going =
-          let u = unforged text s [] calls notices (record { short = short; tape-short = omega arith; formed = formed }) f in
-          record { short = short; formed = formed; bore = u.bore; calls-within = u.calls-within; notices-within = u.notices-within }
+      pub list_going : Going text s (length calls) (length notices)
+      list_going =
+          let u = unforged text s [] calls notices (record { short = short; tape_short = omega arith; formed = formed }) f in
+          record { short = short; formed = formed; bore = u.bore; calls_within = u.calls_within; notices_within = u.notices_within }
 
-      pub list-tested : {r : Listed} {calls' notices' : List ℕ} → ran r calls' notices' ≡ run_tested text (world s calls notices) l
-          → ran r calls' notices' ≡ run text (world s calls notices) l
+      pub list_tested : {r : Listed} {calls' notices' : List ℕ} → ran r calls' notices' ≡ run_tested text (begun s calls notices) l
+          → ran r calls' notices' ≡ run text (begun s calls notices) l
       unfolding run judge_list judged_run refuse refuse_at
-      list-tested e = rw (le-ltb 65535 (length text) short, formed, f) e
+      list_tested e = rw (le-ltb 65535 (length text) short, formed, f) e
 
 -- a run's parts, and demand 3 of the roots that it took
 pub run_is : (text l : List ℕ) (s : State) (calls notices : List ℕ) {r : Listed} {calls' notices' : List ℕ}
-    → ran r calls' notices' ≡ run text (world s calls notices) l
-    → (r.answer ≡ (run text (world s calls notices) l).answer)
-    × (r.taken ≡ (run text (world s calls notices) l).taken)
-    × (world r.state calls' notices' ≡ (run text (world s calls notices) l).world)
-    × (world r.state calls' notices' ≡ series text (world s calls notices) (take r.taken (roots_in l)))
+    → ran r calls' notices' ≡ run text (begun s calls notices) l
+    → (r.answer ≡ (run text (begun s calls notices) l).answer)
+    × (r.taken ≡ (run text (begun s calls notices) l).taken)
+    × (begun r.state calls' notices' ≡ (run text (begun s calls notices) l).world)
+    × (begun r.state calls' notices' ≡ series text (begun s calls notices) (take r.taken (roots_in l)))
     × ((job : List ℕ) (z : Settings) (target : List ℕ) → judge_opening text job (length target) ≡ accepted z
-    → world s calls notices ≡ opening text z calls target → Kept text z calls target (take r.taken (roots_in l)))
+    → begun s calls notices ≡ opening text z calls target → Kept text z calls target (take r.taken (roots_in l)))
 run_is text l s calls notices {r} e =
-    let w = world s calls notices in
+    let w = begun s calls notices in
     let t : r.taken ≡ (run text w l).taken = ap (λ (x : Run). x.taken) e in
     let v = ap (λ (x : Run). x.world) e in (
       ap (λ (x : Run). x.answer) e,
       t,
       v,
-      v ∙ run-leaves text w l ∙ ap (λ (k : ℕ). series text w (take k (roots_in l))) (sym t),
+      v ∙ run_leaves text w l ∙ ap (λ (k : ℕ). series text w (take k (roots_in l))) (sym t),
       λ job z target h q. demand3 text job z calls target h (take r.taken (roots_in l)),
     )

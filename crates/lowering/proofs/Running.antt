@@ -1,7 +1,7 @@
 -- Lowering a tape that reads: a run that counts, and one that writes.
 --     Counted, counts      what the first run tells
---     no_number, no_bound, no-notice-room, all-fits     the answers by the code's tests
---     surely-fits          what needs no counting
+--     no_number, no_bound, no_notice_room, all_fits     the answers by the code's tests
+--     surely_fits          what needs no counting
 --     written              what the second run comes to
 -- Assumes nothing.
 use mathlib.Core.Path.{◌≡◌, refl, sym, ap, subst, ◌∙◌}
@@ -25,16 +25,16 @@ use Rattle.definitions.specs.Reading.{read_root}
 use Rattle.definitions.specs.Lowering.{lower_root}
 use Rattle.definitions.specs.States.{live, imports}
 use Rattle.definitions.specs.Entries.{Lowered, lowered_after, fitted, moved, outcome_by}
-use Rattle.definitions.proofs.Fewness.{bound-few}
-use Rattle.definitions.proofs.Notes.{root-notes}
+use Rattle.definitions.proofs.Fewness.{bound_few}
+use Rattle.definitions.proofs.Notes.{root_notes}
 use Rattle.store.proofs.Adding.{held_moved}
-use Rattle.root_check.proofs.Done.{checked-good}
-use Rattle.root_check.proofs.Readings.{root-in-order}
+use Rattle.root_check.proofs.Done.{checked_good}
+use Rattle.root_check.proofs.Readings.{root_in_order}
 use Rattle.pen.specs.declared.pen.Pen.{Pen}
 use Rattle.pen.specs.Emitting.{Produced, Emitted}
-use Rattle.pen.proofs.Emitting.{call-room, notice-room}
-use Rattle.pen.proofs.Measuring.{pen_of, state-stands, counted}
-use Rattle.lowering.proofs.Judging.{good-tape, fits}
+use Rattle.pen.proofs.Emitting.{call_room_enough, notice_room_enough}
+use Rattle.pen.proofs.Measuring.{pen_of, state_stands, counted}
+use Rattle.lowering.proofs.Judging.{good_tape, fits}
 use Rattle.lowering.specs.Steps.{Ready, judge_tape, tape_outcome, answer_of, Comes}
 
 -- what lowering promises of a run
@@ -56,14 +56,14 @@ module _ {text : List ℕ} {s : State} {tape : List ℕ} {call_room notice_room 
       → Counted text s tape call_room notice_room q
   counts eight {cs} {cs'} {ns} {ns'} {p} {q} start run =
       let ran : Ran text s tape cs cs' ns ns' (pen_of s 0 0) q = subst (λ (x : Pen). Ran text s tape cs cs' ns ns' x q) start run in
-      let good = checked-good (read_root text tape) ready.reads in
+      let good = checked_good (read_root text tape) ready.reads in
       let o = good.0 in
-      let e = ran o good.1 good.2 s.records (imports (live s)) (state-stands text s 0 0 eight ready.unforged.bore (omega arith) (omega arith)) in
-      let few : good.1 ≤ 65535 = omega (arith, root-in-order text tape o good.1 good.2, ready.unforged.spelled.tape-short) in
+      let e = ran o good.1 good.2 s.records (imports (live s)) (state_stands text s 0 0 eight ready.unforged.bore (omega arith) (omega arith)) in
+      let few : good.1 ≤ 65535 = omega (arith, root_in_order text tape o good.1 good.2, ready.unforged.spelled.tape_short) in
       let c = counted text tape s.settings (imports (live s)) o good.1 ready.unforged.spelled.short few good.2 refl refl refl e in
       record {
         lowered = lowered_after text s.settings (imports (live s)) o;
-        judges = good-tape text s tape call_room notice_room o good.1 good.2;
+        judges = good_tape text s tape call_room notice_room o good.1 good.2;
         full = c.0;
         calls = c.1;
         notices = c.2;
@@ -80,35 +80,35 @@ module _ {text : List ℕ} {s : State} {tape : List ℕ} {call_room notice_room 
     no_bound h = rw (c.judges, told c.full free, ← c.calls, lt-ltb (call_room - s.calls) p.calls h)
 
     module _ (room : p.calls ≤ call_room - s.calls) where
-      pub no-notice-room : notice_room - s.notices < p.notices
+      pub no_notice_room : notice_room - s.notices < p.notices
           → answer.Refused (refusal.NoticeSpace p.notices) ≡ answer_of (judge_tape text s tape call_room notice_room)
       unfolding fitted refuse answer_of
-      no-notice-room h =
+      no_notice_room h =
           rw (c.judges, told c.full free, ← c.calls, ← c.notices, le-ltb (call_room - s.calls) p.calls room, lt-ltb (notice_room - s.notices) p.notices h)
 
-      pub all-fits : p.notices ≤ notice_room - s.notices → answer.Accepted ≡ answer_of (judge_tape text s tape call_room notice_room)
+      pub all_fits : p.notices ≤ notice_room - s.notices → answer.Accepted ≡ answer_of (judge_tape text s tape call_room notice_room)
       unfolding fitted refuse answer_of
-      all-fits h =
+      all_fits h =
           rw (c.judges, told c.full free, ← c.calls, ← c.notices, le-ltb (call_room - s.calls) p.calls room, le-ltb (notice_room - s.notices) p.notices h)
 
 -- ---- what needs no counting
 
 -- there is room for what a tape can give at the most, and a number for whatever is bound
-pub surely-fits : {text : List ℕ} {s : State} {tape : List ℕ} {call_room notice_room r : ℕ} → Ready text s tape call_room notice_room
+pub surely_fits : {text : List ℕ} {s : State} {tape : List ℕ} {call_room notice_room r : ℕ} → Ready text s tape call_room notice_room
     → ((t : List ℕ) (z : Settings) (js : List Import) (o : Root) (u : ℕ) → length tape ≤ 65535 → read_root t tape ≡ done o u → length (lowered_after t z js o).calls ≤ r)
     → r ≤ call_room - s.calls → length tape ≤ notice_room - s.notices → answer_of (judge_tape text s tape call_room notice_room) ≡ answer.Accepted
 unfolding fitted refuse answer_of
-surely-fits {text} {s} {tape} {call_room} {notice_room} ready most room notices =
-    let good = checked-good (read_root text tape) ready.reads in
+surely_fits {text} {s} {tape} {call_room} {notice_room} ready most room notices =
+    let good = checked_good (read_root text tape) ready.reads in
     let o = good.0 in
     let js = imports (live s) in
     let l : Lowered = lowered_after text s.settings js o in
-    let c : length l.calls ≤ call_room - s.calls = omega (arith, most text s.settings js o good.1 ready.unforged.spelled.tape-short good.2) in
+    let c : length l.calls ≤ call_room - s.calls = omega (arith, most text s.settings js o good.1 ready.unforged.spelled.tape_short good.2) in
     let n : length l.notices ≤ notice_room - s.notices =
-    omega (arith, root-notes text tape s.settings js o good.1 good.2, root-in-order text tape o good.1 good.2) in
+    omega (arith, root_notes text tape s.settings js o good.1 good.2, root_in_order text tape o good.1 good.2) in
     rw (
-      good-tape text s tape call_room notice_room o good.1 good.2,
-      le-ltb 8 (length l.bound) (bound-few text s o ready.unforged.bore),
+      good_tape text s tape call_room notice_room o good.1 good.2,
+      le-ltb 8 (length l.bound) (bound_few text s o ready.unforged.bore),
       le-ltb (call_room - s.calls) (length l.calls) c,
       le-ltb (notice_room - s.notices) (length l.notices) n,
     )
@@ -128,20 +128,20 @@ pub written : {text : List ℕ} {s : State} {tape cs cs' ns ns' : List ℕ} {p q
 unfolding tape_outcome outcome_by lowered_after
 written {text} {s} {tape} {cs} {cs'} {ns} {ns'} {p} {q} ready accepts eight short short' start run =
     let ran : Ran text s tape cs cs' ns ns' (pen_of s s.calls s.notices) q = subst (λ (x : Pen). Ran text s tape cs cs' ns ns' x q) start run in
-    let good = checked-good (read_root text tape) ready.reads in
+    let good = checked_good (read_root text tape) ready.reads in
     let o = good.0 in
     let js = imports (live s) in
     let l : Lowered = lowered_after text s.settings js o in
     let judges : judge_tape text s tape (length cs) (length ns) ≡ fitted s (length cs) (length ns) l =
-    good-tape text s tape (length cs) (length ns) o good.1 good.2 in
+    good_tape text s tape (length cs) (length ns) o good.1 good.2 in
     let f = fits s (length cs) (length ns) l (ap answer_of (sym judges) ∙ accepts) in
     let u = ready.unforged in
     let e : Emitted s.records js (lower_root text s.settings o) cs cs' ns ns' (pen_of s s.calls s.notices) q =
     ran o good.1 good.2 s.records js
-    (state-stands text s s.calls s.notices eight u.bore (omega (arith, u.calls-within)) (omega (arith, u.notices-within))) in
+    (state_stands text s s.calls s.notices eight u.bore (omega (arith, u.calls_within)) (omega (arith, u.notices_within))) in
     let free : q.full ≡ false = e.fullness ∙ le-ltb 8 (length l.bound) f.0 in
-    let x = call-room e short (omega (arith, e.call-place, u.calls-within, f.1)) free in
-    let y = notice-room e short' (omega (arith, e.notice-place, u.notices-within, f.2)) in
+    let x = call_room_enough e short (omega (arith, e.call_place, u.calls_within, f.1)) free in
+    let y = notice_room_enough e short' (omega (arith, e.notice_place, u.notices_within, f.2)) in
     let m : after s q ≡ record { answer = answer.Accepted; state = moved s l } =
     (λ ι. record {
       answer = answer.Accepted;

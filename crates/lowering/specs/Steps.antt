@@ -16,7 +16,7 @@ use Rattle.root_check.specs.Checking.{checked}
 -- text and tape are short, and the text is UTF-8
 pub record Text (text tape : List ℕ) : Type 0 where
   pub short : length text ≤ 65535
-  pub tape-short : length tape ≤ 65535
+  pub tape_short : length tape ≤ 65535
   pub formed : first_ill text ≡ Nothing
 
 -- the text is in order and the state is not forged, over targets of these lengths
@@ -24,15 +24,15 @@ pub record Going (text : List ℕ) (s : State) (call_room notice_room : ℕ) : T
   pub short : length text ≤ 65535
   pub formed : first_ill text ≡ Nothing
   pub bore : sound text s ≡ true
-  pub calls-within : s.calls ≤ call_room
-  pub notices-within : s.notices ≤ notice_room
+  pub calls_within : s.calls ≤ call_room
+  pub notices_within : s.notices ≤ notice_room
 
 -- and the state is not forged, over targets of these lengths
 pub record Unforged (text : List ℕ) (s : State) (tape : List ℕ) (call_room notice_room : ℕ) : Type 0 where
   pub spelled : Text text tape
   pub bore : sound text s ≡ true
-  pub calls-within : s.calls ≤ call_room
-  pub notices-within : s.notices ≤ notice_room
+  pub calls_within : s.calls ≤ call_room
+  pub notices_within : s.notices ≤ notice_room
 
 -- and the tape reads as a root
 pub record Ready (text : List ℕ) (s : State) (tape : List ℕ) (call_room notice_room : ℕ) : Type 0 where

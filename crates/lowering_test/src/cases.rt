@@ -4,8 +4,10 @@ ghost use Rattle.std.specs.Prelude.{◌≤◌, length};
 use crate::show::{say, show_answer, show_kept, show_left, show_records, show_targets};
 use crate::states::replaced;
 use definitions::state::{Answer, State};
+use files::read_full;
 use lowering::lower_root;
 use settings::opening::open_job;
+use std::io;
 use std::io::{Result, Write};
 use vectors::lines::{after, before, line_end};
 use vectors::values::{hex_bytes, value_of};
@@ -164,7 +166,14 @@ fn run_line(out: &mut impl Write, line: &[u8]) -> Result<()> {
     )
 }
 
-pub fn run_lines(out: &mut impl Write, s: &[u8]) -> Result<()> {
+// The lines of standard input, one after the other.
+pub fn run(rt: &(impl Input + Print)) -> Result<()> {
+    let mut input = [0u8; 65536];
+    let n = read_full(&mut rt.reader(), &mut input);
+    run_lines(&mut io::writer(rt), &input[0..n])
+}
+
+fn run_lines(out: &mut impl Write, s: &[u8]) -> Result<()> {
     let mut at = 0;
     while at < s.len() {
         let end = line_end(s, at);

@@ -8,16 +8,10 @@ mod cases;
 mod show;
 mod states;
 
-use files::{CANNOT_WRITE, read_full};
-use std::alloc::AllocError;
-use std::io;
+use files::CANNOT_WRITE;
 
-fn main(rt: HostRuntime) -> Result<(), AllocError> {
-    let mut buffer = vec![in rt.alloc(); 0u8; 65536]?;
-    let lines: &mut [u8] = &mut buffer;
-    let n = read_full(&mut rt.reader(), lines);
-    if cases::run_lines(&mut io::writer(&rt), &lines[0..n]).is_err() {
+fn main(rt: HostRuntime) {
+    if cases::run(&rt).is_err() {
         let _ = rt.eprintln(CANNOT_WRITE);
     }
-    Ok(())
 }

@@ -1,8 +1,8 @@
 -- Steps that the proofs of the code share.
 --     told                    what a call answered, and what a branch says of it
---     records-next            a walk through the records of an array, at element i
---     packed-length           how many bytes a state has
---     packed-laid             what a target with room for them holds after
+--     records_next            a walk through the records of an array, at element i
+--     packed_length           how many bytes a state has
+--     packed_laid             what a target with room for them holds after
 -- Assumes nothing.
 use mathlib.Core.Path.{◌≡◌, refl, sym, ◌∙◌}
 use mathlib.Core.List.{List, [], ◌∷◌, ◌++◌, append-nil, append_assoc}
@@ -18,7 +18,7 @@ use Rattle.definitions.specs.declared.options.Settings.{Settings}
 use Rattle.definitions.specs.declared.state.State.{State}
 use Rattle.definitions.specs.Entries.{laid}
 use Rattle.tape.specs.Targets.{Wrote}
-use Rattle.tape.proofs.Targets.{sets-room}
+use Rattle.tape.proofs.Targets.{sets_room}
 use Rattle.packing.specs.Packed.{u64_bytes, record_bytes, records_bytes, optional_bytes, options_bytes, form_bytes, settings_bytes, packed, packed_target}
 
 pub told : {A : Type 0} {r x b : A} → r ≡ x → r ≡ b → x ≡ b
@@ -28,27 +28,27 @@ told p q = sym p ∙ q
 abbrev pub nothing : Record
 nothing = record { import = Named 0 0; binding = 0 }
 
-records-append : (rs qs : List Record) → records_bytes (rs ++ qs) ≡ records_bytes rs ++ records_bytes qs
+records_append : (rs qs : List Record) → records_bytes (rs ++ qs) ≡ records_bytes rs ++ records_bytes qs
 unfolding records_bytes
-records-append [] qs = refl
-records-append (r ∷ rs) qs = rw (records-append rs qs, append_assoc)
+records_append [] qs = refl
+records_append (r ∷ rs) qs = rw (records_append rs qs, append_assoc)
 
-pub records-next : (a : List Record) (i : ℕ) → i < length a → records_bytes (take i a) ++ record_bytes (get_or a i nothing) ≡ records_bytes (take (i + 1) a)
+pub records_next : (a : List Record) (i : ℕ) → i < length a → records_bytes (take i a) ++ record_bytes (get_or a i nothing) ≡ records_bytes (take (i + 1) a)
 unfolding records_bytes
-records-next a i h = rw (add-one, take-suc a i nothing h, records-append (take i a) (get_or a i nothing ∷ []), append-nil)
+records_next a i h = rw (add-one, take-suc a i nothing h, records_append (take i a) (get_or a i nothing ∷ []), append-nil)
 
-records-length : (rs : List Record) → length (records_bytes rs) ≡ 4 * length rs
+records_length : (rs : List Record) → length (records_bytes rs) ≡ 4 * length rs
 unfolding records_bytes record_bytes
-records-length [] = refl
-records-length (r ∷ rs) = omega (arith, records-length rs)
+records_length [] = refl
+records_length (r ∷ rs) = omega (arith, records_length rs)
 
-pub settings-length : (s : Settings) → length (settings_bytes s) ≡ 46
+pub settings_length : (s : Settings) → length (settings_bytes s) ≡ 46
 unfolding settings_bytes options_bytes optional_bytes form_bytes
-settings-length s = refl
+settings_length s = refl
 
-pub packed-length : (s : State) → length s.records ≡ 8 → length (packed s) ≡ 102
+pub packed_length : (s : State) → length s.records ≡ 8 → length (packed s) ≡ 102
 unfolding packed
-packed-length s e =
+packed_length s e =
     let a = settings_bytes s.settings in
     let b = records_bytes s.records in
     rw (
@@ -56,12 +56,12 @@ packed-length s e =
       length-append (a ++ b ++ u64_bytes s.count) (u64_bytes s.calls),
       length-append (a ++ b) (u64_bytes s.count),
       length-append a b,
-      settings-length s.settings,
-      records-length s.records,
+      settings_length s.settings,
+      records_length s.records,
       e,
     )
 
 -- a target with room for a state holds it after
-pub packed-laid : (s : State) (o : List ℕ) {o' : List ℕ} {r : ℕ} → length s.records ≡ 8 → 102 ≤ length o → Wrote o o' 0 r (packed s) → o' ≡ packed_target s o
+pub packed_laid : (s : State) (o : List ℕ) {o' : List ℕ} {r : ℕ} → length s.records ≡ 8 → 102 ≤ length o → Wrote o o' 0 r (packed s) → o' ≡ packed_target s o
 unfolding packed_target laid
-packed-laid s o e h w = rw (le-ltb (length o) 102 h) (w.holds ∙ sets-room o 0 (packed s) (omega (arith, packed-length s e)))
+packed_laid s o e h w = rw (le-ltb (length o) 102 h) (w.holds ∙ sets_room o 0 (packed s) (omega (arith, packed_length s e)))

@@ -1,6 +1,6 @@
 -- A tape that begins with the code of an end.
---     first-is                       what is told by the first byte
---     attributes-over, children-over the command there is the end
+--     first_is                       what is told by the first byte
+--     attributes_over, children_over the command there is the end
 -- Assumes nothing.
 use mathlib.Core.Path.{◌≡◌, refl, ap}
 use mathlib.Core.Bool.{true, false}
@@ -15,28 +15,28 @@ use Rattle.commands.specs.declared.root.AttributeCommand.TheVariants as attribut
 use Rattle.commands.specs.declared.root.ChildCommand.TheVariants as children
 use Rattle.parts.specs.Promises.{starts_with}
 
-pub none-there : (code : ℕ) (t : List ℕ) → length t ≡ 0 → starts_with code t ≡ false
+pub none_there : (code : ℕ) (t : List ℕ) → length t ≡ 0 → starts_with code t ≡ false
 unfolding starts_with
-none-there code [] h = refl
-none-there code (b ∷ t) h = absurd (omega (arith, h))
+none_there code [] h = refl
+none_there code (b ∷ t) h = absurd (omega (arith, h))
 
-pub first-is : (code : ℕ) (t : List ℕ) → 0 < length t → starts_with code t ≡ eqb (get_or t 0 0) code
+pub first_is : (code : ℕ) (t : List ℕ) → 0 < length t → starts_with code t ≡ eqb (get_or t 0 0) code
 unfolding starts_with
-first-is code [] h = absurd (omega (arith, h))
-first-is code (b ∷ t) h = refl
+first_is code [] h = absurd (omega (arith, h))
+first_is code (b ∷ t) h = refl
 
 -- one byte is there at the least
-pub some-there : (code : ℕ) (t : List ℕ) → starts_with code t ≡ true → 1 ≤ length t
+pub some_there : (code : ℕ) (t : List ℕ) → starts_with code t ≡ true → 1 ≤ length t
 unfolding starts_with
-some-there code [] h = let z : ◌≡◌ {A = ℕ} 0 1 = cc in absurd (omega arith)
-some-there code (b ∷ t) h = omega arith
+some_there code [] h = let z : ◌≡◌ {A = ℕ} 0 1 = cc in absurd (omega arith)
+some_there code (b ∷ t) h = omega arith
 
-pub attributes-over : (t : List ℕ) → starts_with 0x1e t ≡ true → attribute_command t ≡ attributes.End
+pub attributes_over : (t : List ℕ) → starts_with 0x1e t ≡ true → attribute_command t ≡ attributes.End
 unfolding starts_with attribute_command
-attributes-over [] h = let z : ◌≡◌ {A = ℕ} 0 1 = cc in absurd (omega arith)
-attributes-over (b ∷ t) h = ap (λ (n : ℕ). attribute_command (n ∷ t)) (eqb-true b 0x1e h)
+attributes_over [] h = let z : ◌≡◌ {A = ℕ} 0 1 = cc in absurd (omega arith)
+attributes_over (b ∷ t) h = ap (λ (n : ℕ). attribute_command (n ∷ t)) (eqb-true b 0x1e h)
 
-pub children-over : (t : List ℕ) → starts_with 0x1f t ≡ true → child_command t ≡ children.End
+pub children_over : (t : List ℕ) → starts_with 0x1f t ≡ true → child_command t ≡ children.End
 unfolding starts_with child_command
-children-over [] h = let z : ◌≡◌ {A = ℕ} 0 1 = cc in absurd (omega arith)
-children-over (b ∷ t) h = ap (λ (n : ℕ). child_command (n ∷ t)) (eqb-true b 0x1f h)
+children_over [] h = let z : ◌≡◌ {A = ℕ} 0 1 = cc in absurd (omega arith)
+children_over (b ∷ t) h = ap (λ (n : ℕ). child_command (n ∷ t)) (eqb-true b 0x1f h)

@@ -11,7 +11,7 @@ use Rattle.text.specs.declared.spans.Span.{Span}
 use Rattle.text.specs.Spans.{bounds_of}
 use Rattle.commands.specs.declared.root.Place.{Place}
 use Rattle.commands.specs.declared.root.NameCommand.TheVariants as names
-use Rattle.text.proofs.Lists.{told, tail-part}
+use Rattle.text.proofs.Lists.{told, tail_part}
 use Rattle.commands.specs.declared.root.MemberCommand.{MemberCommand}
 use Rattle.commands.specs.declared.root.MemberCommand.TheVariants as members
 use Rattle.commands.specs.declared.root.AttributeCommand.TheVariants as attributes
@@ -26,39 +26,39 @@ use Rattle.definitions.specs.Lowering.{Context, put_over, has_value, is_key, key
 use Rattle.parts.specs.declared.jsx_impl.Front.{Front}
 use Rattle.parts.specs.declared.jsx_impl.Front.TheVariants as front
 use Rattle.parts.specs.Promises.{some_output, Onward, FrontIs}
-use Rattle.parts.proofs.Inversions.{never, from-done, named-done, spanned-done, map-done, Within, attributes-end, attributes-plain, attributes-namespaced, attributes-spread, attributes-literal, value-absent, value-empty, value-expression, value-text, value-element, value-fragment}
+use Rattle.parts.proofs.Inversions.{never, from_done, named_done, spanned_done, map_done, Within, attributes_end, attributes_plain, attributes_namespaced, attributes_spread, attributes_literal, value_absent, value_empty, value_expression, value_text, value_element, value_fragment}
 
 -- ---- whether a value is there
 
 module _ (f : ℕ) (text t : List ℕ) (d : ℕ) (v : Value) (u : ℕ) (e : value_at f text d t ≡ done v u) where
-  pub absent-value : value_command t ≡ values.Absent → false ≡ has_value v
+  pub absent_value : value_command t ≡ values.Absent → false ≡ has_value v
   unfolding has_value
-  absent-value c = sym (ap has_value (value-absent text t d f c e).0)
+  absent_value c = sym (ap has_value (value_absent text t d f c e).0)
 
-  pub text-value : (s : Span) → value_command t ≡ values.Text s → true ≡ has_value v
+  pub text_value : (s : Span) → value_command t ≡ values.Text s → true ≡ has_value v
   unfolding has_value
-  text-value s c = sym (ap has_value (value-text text t d f s c e).0)
+  text_value s c = sym (ap has_value (value_text text t d f s c e).0)
 
-  pub expression-value : (x : ℕ) → value_command t ≡ values.Expression x → true ≡ has_value v
+  pub expression_value : (x : ℕ) → value_command t ≡ values.Expression x → true ≡ has_value v
   unfolding has_value
-  expression-value x c = sym (ap has_value (value-expression text t d f x c e).0)
+  expression_value x c = sym (ap has_value (value_expression text t d f x c e).0)
 
-  pub empty-value : value_command t ≡ values.Empty → true ≡ has_value v
+  pub empty_value : value_command t ≡ values.Empty → true ≡ has_value v
   unfolding has_value
-  empty-value c = sym (ap has_value (value-empty text t d f c e).0)
+  empty_value c = sym (ap has_value (value_empty text t d f c e).0)
 
-  pub element-value : (p : Place) → value_command t ≡ values.Element p → true ≡ has_value v
+  pub element_value : (p : Place) → value_command t ≡ values.Element p → true ≡ has_value v
   unfolding has_value
-  element-value p c = sym (ap has_value (value-element text t d f p c e).1)
+  element_value p c = sym (ap has_value (value_element text t d f p c e).1)
 
-  pub fragment-value : (p : Place) → value_command t ≡ values.Fragment p → true ≡ has_value v
+  pub fragment_value : (p : Place) → value_command t ≡ values.Fragment p → true ≡ has_value v
   unfolding has_value
-  fragment-value p c = sym (ap has_value (value-fragment text t d f p c e).1)
+  fragment_value p c = sym (ap has_value (value_fragment text t d f p c e).1)
 
 -- ---- names
 
 pub member_seen : (t : List ℕ) (i : ℕ) {r b : MemberCommand} → r ≡ member_command (take (length t - i) (drop i t)) → r ≡ b → member_command (drop i t) ≡ b
-member_seen t i p q = ap member_command (sym (tail-part t i)) ∙ told p q
+member_seen t i p q = ap member_command (sym (tail_part t i)) ∙ told p q
 
 -- the properties of a name, from the place i on; they began at `start` and take u bytes
 pub record MembersLeft (text t : List ℕ) (start u i : ℕ) : Type 0 where
@@ -69,15 +69,15 @@ pub record MembersLeft (text t : List ℕ) (start u i : ℕ) : Type 0 where
   pub used : start + u ≡ i + size
 
 module _ (text t : List ℕ) (start u i : ℕ) (R : MembersLeft text t start u i) where
-  pub members-goes : (s : Span) → member_command (drop i t) ≡ members.Member s → MembersLeft text t start u (i + 5)
+  pub members_goes : (s : Span) → member_command (drop i t) ≡ members.Member s → MembersLeft text t start u (i + 5)
   unfolding members_at members_by
-  members-goes s c = go R.fuel R.reads
+  members_goes s c = go R.fuel R.reads
     where
       go : (f : ℕ) → members_at f text (drop i t) ≡ done R.rest R.size → MembersLeft text t start u (i + 5)
       go zero e = never e
       go (suc f) e =
-          let m = map-done (s ∷◌) (from 5 (members_at f text (drop 5 (drop i t)))) (named-done (bounds_of text s) _ (rw c at e)) in
-          let b = from-done 5 (members_at f text (drop 5 (drop i t))) m.1 in
+          let m = map_done (s ∷◌) (from 5 (members_at f text (drop 5 (drop i t)))) (named_done (bounds_of text s) _ (rw c at e)) in
+          let b = from_done 5 (members_at f text (drop 5 (drop i t))) m.1 in
           record {
             fuel = f;
             rest = m.0;
@@ -86,9 +86,9 @@ module _ (text t : List ℕ) (start u i : ℕ) (R : MembersLeft text t start u i
             used = omega (arith, R.used, b.2);
           }
 
-  pub members-over : member_command (drop i t) ≡ members.Other → i ≡ start + u
+  pub members_over : member_command (drop i t) ≡ members.Other → i ≡ start + u
   unfolding members_at members_by
-  members-over c = go R.fuel R.reads
+  members_over c = go R.fuel R.reads
     where
       go : (f : ℕ) → members_at f text (drop i t) ≡ done R.rest R.size → i ≡ start + u
       go zero e = never e
@@ -97,100 +97,100 @@ module _ (text t : List ℕ) (start u i : ℕ) (R : MembersLeft text t start u i
           let k : 0 ≡ R.size = cc in
           omega (arith, R.used)
 
-  pub members-never : member_command (drop i t) ≡ members.Cut → ⊥
+  pub members_never : member_command (drop i t) ≡ members.Cut → ⊥
   unfolding members_at members_by
-  members-never c = go R.fuel R.reads
+  members_never c = go R.fuel R.reads
     where
       go : (f : ℕ) → members_at f text (drop i t) ≡ done R.rest R.size → ⊥
       go zero e = never e
       go (suc f) e = never (rw c at e)
 
 module _ (f : ℕ) (text t : List ℕ) (n : Name) (u : ℕ) (e : name_at f text t ≡ done n u) where
-  pub plain-name : (s : Span) → name_command t ≡ names.Plain s → 5 ≡ u
+  pub plain_name : (s : Span) → name_command t ≡ names.Plain s → 5 ≡ u
   unfolding name_at name_by
-  plain-name s c = let h : done (plain s) 5 ≡ done n u = named-done (bounds_of text s) _ (rw c at e) in cc
+  plain_name s c = let h : done (plain s) 5 ≡ done n u = named_done (bounds_of text s) _ (rw c at e) in cc
 
-  pub namespaced-name : (s r : Span) → name_command t ≡ names.Namespaced s r → 9 ≡ u
+  pub namespaced_name : (s r : Span) → name_command t ≡ names.Namespaced s r → 9 ≡ u
   unfolding name_at name_by
-  namespaced-name s r c = let h : done (namespaced s r) 9 ≡ done n u = named-done (worse (bounds_of text s) (bounds_of text r)) _ (rw c at e) in cc
+  namespaced_name s r c = let h : done (namespaced s r) 9 ≡ done n u = named_done (worse (bounds_of text s) (bounds_of text r)) _ (rw c at e) in cc
 
-  pub identifier-name : (s : Span) → name_command t ≡ names.Identifier s → (ms : List Span) × (w : ℕ) × (members_at f text (drop 5 t) ≡ done ms w) × (u ≡ 5 + w)
+  pub identifier_name : (s : Span) → name_command t ≡ names.Identifier s → (ms : List Span) × (w : ℕ) × (members_at f text (drop 5 t) ≡ done ms w) × (u ≡ 5 + w)
   unfolding name_at name_by
-  identifier-name s c =
-      let m = map-done (identifier s) (from 5 (members_at f text (drop 5 t))) (named-done (bounds_of text s) _ (rw c at e)) in
-      let b = from-done 5 (members_at f text (drop 5 t)) m.1 in
+  identifier_name s c =
+      let m = map_done (identifier s) (from 5 (members_at f text (drop 5 t))) (named_done (bounds_of text s) _ (rw c at e)) in
+      let b = from_done 5 (members_at f text (drop 5 t)) m.1 in
       (m.0, b.0, b.1, b.2)
 
-  pub this-name : name_command t ≡ names.This → (ms : List Span) × (w : ℕ) × (members_at f text (drop 1 t) ≡ done ms w) × (u ≡ 1 + w)
+  pub this_name : name_command t ≡ names.This → (ms : List Span) × (w : ℕ) × (members_at f text (drop 1 t) ≡ done ms w) × (u ≡ 1 + w)
   unfolding name_at name_by
-  this-name c =
-      let m = map-done this (from 1 (members_at f text (drop 1 t))) (rw c at e) in
-      let b = from-done 1 (members_at f text (drop 1 t)) m.1 in
+  this_name c =
+      let m = map_done this (from 1 (members_at f text (drop 1 t))) (rw c at e) in
+      let b = from_done 1 (members_at f text (drop 1 t)) m.1 in
       (m.0, b.0, b.1, b.2)
 
   pub wrong_name : name_command t ≡ names.Wrong → ⊥
   unfolding name_at name_by
   wrong_name c = never (rw c at e)
 
-  pub cut-name : name_command t ≡ names.Cut → ⊥
+  pub cut_name : name_command t ≡ names.Cut → ⊥
   unfolding name_at name_by
-  cut-name c = never (rw c at e)
+  cut_name c = never (rw c at e)
 
 -- ---- whether an object literal gives a property
 
-some-carried : (p : Property) (ps : List Property) → true ≡ some_output (carried (p ∷ ps))
+some_carried : (p : Property) (ps : List Property) → true ≡ some_output (carried (p ∷ ps))
 unfolding carried some_output
-some-carried (unnamed e) ps = refl
-some-carried (prop_name e s) ps = refl
+some_carried (unnamed e) ps = refl
+some_carried (prop_name e s) ps = refl
 
-some-literal : (c : Context) (e : ℕ) (p : Property) (ps : List Property) → true ≡ some_output (lower_literal c e (p ∷ ps))
+some_literal : (c : Context) (e : ℕ) (p : Property) (ps : List Property) → true ≡ some_output (lower_literal c e (p ∷ ps))
 unfolding some_output
-some-literal c e p ps = go (has_proto c (p ∷ ps))
+some_literal c e p ps = go (has_proto c (p ∷ ps))
   where
     go : (b : Bool) → true ≡ some_output (cond b (put_over call.spread_property e) (carried (p ∷ ps)))
     go true = refl
-    go false = some-carried p ps
+    go false = some_carried p ps
 
 module _ (f : ℕ) (text t : List ℕ) (c : Context) (x : ℕ) (ps : List Property) (u : ℕ) (e : properties_at f text t ≡ done ps u) where
-  pub end-property : property_command t ≡ properties.End → false ≡ some_output (lower_literal c x ps)
+  pub end_property : property_command t ≡ properties.End → false ≡ some_output (lower_literal c x ps)
   unfolding properties_at properties_by some_output has_proto carried
-  end-property k = go f e
+  end_property k = go f e
     where
       go : (f : ℕ) → properties_at f text t ≡ done ps u → false ≡ some_output (lower_literal c x ps)
       go zero e = never e
       go (suc f) e = let h : done [] 1 ≡ done ps u = rw k at e in let q : [] ≡ ps = cc in rw (← q) refl
 
-  pub unnamed-property : (y : ℕ) → property_command t ≡ properties.Property y → true ≡ some_output (lower_literal c x ps)
+  pub unnamed_property : (y : ℕ) → property_command t ≡ properties.Property y → true ≡ some_output (lower_literal c x ps)
   unfolding properties_at properties_by
-  unnamed-property y k = go f e
+  unnamed_property y k = go f e
     where
       go : (f : ℕ) → properties_at f text t ≡ done ps u → true ≡ some_output (lower_literal c x ps)
       go zero e = never e
       go (suc f) e =
-          let m = map-done (unnamed y ∷◌) (from 3 (properties_at f text (drop 3 t))) (rw k at e) in
-          rw m.2 (some-literal c x (unnamed y) m.0)
+          let m = map_done (unnamed y ∷◌) (from 3 (properties_at f text (drop 3 t))) (rw k at e) in
+          rw m.2 (some_literal c x (unnamed y) m.0)
 
-  pub named-property : (y : ℕ) (s : Span) → property_command t ≡ properties.Named y s → true ≡ some_output (lower_literal c x ps)
+  pub named_property : (y : ℕ) (s : Span) → property_command t ≡ properties.Named y s → true ≡ some_output (lower_literal c x ps)
   unfolding properties_at properties_by
-  named-property y s k = go f e
+  named_property y s k = go f e
     where
       go : (f : ℕ) → properties_at f text t ≡ done ps u → true ≡ some_output (lower_literal c x ps)
       go zero e = never e
       go (suc f) e =
-          let m = map-done (prop_name y s ∷◌) (from 7 (properties_at f text (drop 7 t))) (spanned-done (bounds_of text s) _ (rw k at e)).0 in
-          rw m.2 (some-literal c x (prop_name y s) m.0)
+          let m = map_done (prop_name y s ∷◌) (from 7 (properties_at f text (drop 7 t))) (spanned_done (bounds_of text s) _ (rw k at e)).0 in
+          rw m.2 (some_literal c x (prop_name y s) m.0)
 
-  pub wrong-property : property_command t ≡ properties.Wrong → ⊥
+  pub wrong_property : property_command t ≡ properties.Wrong → ⊥
   unfolding properties_at properties_by
-  wrong-property k = go f e
+  wrong_property k = go f e
     where
       go : (f : ℕ) → properties_at f text t ≡ done ps u → ⊥
       go zero e = never e
       go (suc f) e = never (rw k at e)
 
-  pub cut-property : property_command t ≡ properties.Cut → ⊥
+  pub cut_property : property_command t ≡ properties.Cut → ⊥
   unfolding properties_at properties_by
-  cut-property k = go f e
+  cut_property k = go f e
     where
       go : (f : ℕ) → properties_at f text t ≡ done ps u → ⊥
       go zero e = never e
@@ -202,20 +202,20 @@ late : (x y z : Bool) → x ≡ true → y ≡ true → ((x && y) || z) ≡ true
 late x y z p q = rw (p, q) refl
 
 module _ (c : Context) (text t : List ℕ) (seen : Bool) (f d : ℕ) (a : Attributes) (u : ℕ) (e : attributes_at f text d t ≡ done a u) where
-  pub front-key : (s : Span) → attribute_command t ≡ attributes.Plain s → seen ≡ true → is_key c s ≡ true → FrontIs c text d t seen f a u front.Key
+  pub front_key : (s : Span) → attribute_command t ≡ attributes.Plain s → seen ≡ true → is_key c s ≡ true → FrontIs c text d t seen f a u front.Key
   unfolding FrontIs key_after_spread
-  front-key s k h i =
-      let W = attributes-plain text t d f s k e in
+  front_key s k h i =
+      let W = attributes_plain text t d f s k e in
       ap (λ (b : Attributes). key_after_spread c seen b) W.is ∙ late seen (is_key c s) (key_after_spread c seen W.rest) h i
 
-  pub front-end : attribute_command t ≡ attributes.End → FrontIs c text d t seen f a u front.End
+  pub front_end : attribute_command t ≡ attributes.End → FrontIs c text d t seen f a u front.End
   unfolding FrontIs key_after_spread
-  front-end k = ap (λ (b : Attributes). key_after_spread c seen b) (attributes-end text t d f k e).0
+  front_end k = ap (λ (b : Attributes). key_after_spread c seen b) (attributes_end text t d f k e).0
 
-  pub front-spread : (x : ℕ) → attribute_command t ≡ attributes.Spread x → FrontIs c text d t seen f a u (front.Spread 3)
+  pub front_spread : (x : ℕ) → attribute_command t ≡ attributes.Spread x → FrontIs c text d t seen f a u (front.Spread 3)
   unfolding FrontIs key_after_spread
-  front-spread x k =
-      let W = attributes-spread text t d f x k e in
+  front_spread x k =
+      let W = attributes_spread text t d f x k e in
       (W.rest, record { fuel = W.fuel; turns = W.turns; size = W.size; reads = W.reads; used = W.used }, ap (λ (b : Attributes). key_after_spread c seen b) W.is)
 
   -- the rest behind an attribute whose value or properties were passed
@@ -235,34 +235,34 @@ module _ (c : Context) (text t : List ℕ) (seen : Bool) (f d : ℕ) (a : Attrib
   abbrev pub Skips : (m took : ℕ) → Type 0
   Skips m took = (h : ℕ) (v : Value) (w : ℕ) → length (drop m t) < h → value_at h text d (drop m t) ≡ done v w → took ≡ w
 
-  pub front-plain : (s : Span) → attribute_command t ≡ attributes.Plain s → length t < f → 5 ≤ length t → (seen && is_key c s) ≡ false → (took : ℕ) → Skips 5 took
+  pub front_plain : (s : Span) → attribute_command t ≡ attributes.Plain s → length t < f → 5 ≤ length t → (seen && is_key c s) ≡ false → (took : ℕ) → Skips 5 took
       → FrontIs c text d t seen f a u (front.Other (5 + took))
   unfolding FrontIs key_after_spread
-  front-plain s k enough five hn took S =
-      let W = attributes-plain text t d f s k e in (
+  front_plain s k enough five hn took S =
+      let W = attributes_plain text t d f s k e in (
         W.rest,
-        behind 5 (5 + took) took W (S W.fuel W.part W.took (omega (arith, W.turns, length-drop 5 t)) W.part-reads) refl,
+        behind 5 (5 + took) took W (S W.fuel W.part W.took (omega (arith, W.turns, length-drop 5 t)) W.part_reads) refl,
         ap (λ (b : Attributes). key_after_spread c seen b) W.is ∙ ap (λ (b : Bool). b || key_after_spread c seen W.rest) hn,
       )
 
-  pub front-namespaced : (s r : Span) → attribute_command t ≡ attributes.Namespaced s r → length t < f → 9 ≤ length t → (took : ℕ) → Skips 9 took
+  pub front_namespaced : (s r : Span) → attribute_command t ≡ attributes.Namespaced s r → length t < f → 9 ≤ length t → (took : ℕ) → Skips 9 took
       → FrontIs c text d t seen f a u (front.Other (9 + took))
   unfolding FrontIs key_after_spread
-  front-namespaced s r k enough nine took S =
-      let W = attributes-namespaced text t d f s r k e in (
+  front_namespaced s r k enough nine took S =
+      let W = attributes_namespaced text t d f s r k e in (
         W.rest,
-        behind 9 (9 + took) took W (S W.fuel W.part W.took (omega (arith, W.turns, length-drop 9 t)) W.part-reads) refl,
+        behind 9 (9 + took) took W (S W.fuel W.part W.took (omega (arith, W.turns, length-drop 9 t)) W.part_reads) refl,
         ap (λ (b : Attributes). key_after_spread c seen b) W.is,
       )
 
-  pub front-literal : (x : ℕ) → attribute_command t ≡ attributes.Literal x → length t < f → 3 ≤ length t → (took : ℕ)
+  pub front_literal : (x : ℕ) → attribute_command t ≡ attributes.Literal x → length t < f → 3 ≤ length t → (took : ℕ)
       → ((h : ℕ) (ps : List Property) (w : ℕ) → length (drop 3 t) < h → properties_at h text (drop 3 t) ≡ done ps w → took ≡ w)
       → FrontIs c text d t seen f a u (front.Spread (3 + took))
   unfolding FrontIs key_after_spread
-  front-literal x k enough three took S =
-      let W = attributes-literal text t d f x k e in (
+  front_literal x k enough three took S =
+      let W = attributes_literal text t d f x k e in (
         W.rest,
-        behind 3 (3 + took) took W (S W.fuel W.part W.took (omega (arith, W.turns, length-drop 3 t)) W.part-reads) refl,
+        behind 3 (3 + took) took W (S W.fuel W.part W.took (omega (arith, W.turns, length-drop 3 t)) W.part_reads) refl,
         ap (λ (b : Attributes). key_after_spread c seen b) W.is,
       )
 
@@ -286,13 +286,13 @@ module _ (c : Context) (text t : List ℕ) (d : ℕ) (a : Attributes) (i : ℕ) 
       subst (λ (l : List ℕ). FrontIs c text d l seen R.fuel R.rest R.size r) here
       (T R.fuel d R.rest R.size (omega (arith, R.enough, ap length here, length-drop i t)) (ap (λ (l : List ℕ). attributes_at R.fuel text d l) here ∙ R.reads))
 
-  pub keys-key : Told front.Key → true ≡ key_after_spread c false a
+  pub keys_key : Told front.Key → true ≡ key_after_spread c false a
   unfolding FrontIs
-  keys-key T = sym (R.same ∙ fronted front.Key T)
+  keys_key T = sym (R.same ∙ fronted front.Key T)
 
-  pub keys-end : Told front.End → false ≡ key_after_spread c false a
+  pub keys_end : Told front.End → false ≡ key_after_spread c false a
   unfolding FrontIs
-  keys-end T = sym (R.same ∙ fronted front.End T)
+  keys_end T = sym (R.same ∙ fronted front.End T)
 
   on : (n : ℕ) (b : Attributes) (now : Bool) → 1 ≤ n → Onward text d (drop i t) R.fuel n R.size b → key_after_spread c seen R.rest ≡ key_after_spread c now b
       → KeysLeft c text t d a (i + n) now
@@ -305,13 +305,13 @@ module _ (c : Context) (text t : List ℕ) (d : ℕ) (a : Attributes) (i : ℕ) 
     same = R.same ∙ s;
   }
 
-  pub keys-spread : (n : ℕ) → 1 ≤ n → Told (front.Spread n) → KeysLeft c text t d a (i + n) true
+  pub keys_spread : (n : ℕ) → 1 ≤ n → Told (front.Spread n) → KeysLeft c text t d a (i + n) true
   unfolding FrontIs
-  keys-spread n pos T = let F = fronted (front.Spread n) T in on n F.0 true pos F.1 F.2
+  keys_spread n pos T = let F = fronted (front.Spread n) T in on n F.0 true pos F.1 F.2
 
-  pub keys-other : (n : ℕ) → 1 ≤ n → Told (front.Other n) → KeysLeft c text t d a (i + n) seen
+  pub keys_other : (n : ℕ) → 1 ≤ n → Told (front.Other n) → KeysLeft c text t d a (i + n) seen
   unfolding FrontIs
-  keys-other n pos T = let F = fronted (front.Other n) T in on n F.0 seen pos F.1 F.2
+  keys_other n pos T = let F = fronted (front.Other n) T in on n F.0 seen pos F.1 F.2
 
 -- ---- what a skip of a part says of the tape behind n bytes
 
@@ -319,10 +319,10 @@ pub passing : (t : List ℕ) (n : ℕ) (text : List ℕ) (d : ℕ) {took : ℕ}
     → ((h : ℕ) (v : Value) (w : ℕ) → length (take (length t - n) (drop n t)) < h → value_at h text d (take (length t - n) (drop n t)) ≡ done v w → took ≡ w)
     → (h : ℕ) (v : Value) (w : ℕ) → length (drop n t) < h → value_at h text d (drop n t) ≡ done v w → took ≡ w
 passing t n text d {took} =
-    subst (λ (l : List ℕ). (h : ℕ) (v : Value) (w : ℕ) → length l < h → value_at h text d l ≡ done v w → took ≡ w) (tail-part t n)
+    subst (λ (l : List ℕ). (h : ℕ) (v : Value) (w : ℕ) → length l < h → value_at h text d l ≡ done v w → took ≡ w) (tail_part t n)
 
-pub passing-properties : (t : List ℕ) (n : ℕ) (text : List ℕ) {took : ℕ}
+pub passing_properties : (t : List ℕ) (n : ℕ) (text : List ℕ) {took : ℕ}
     → ((h : ℕ) (v : List Property) (w : ℕ) → length (take (length t - n) (drop n t)) < h → properties_at h text (take (length t - n) (drop n t)) ≡ done v w → took ≡ w)
     → (h : ℕ) (v : List Property) (w : ℕ) → length (drop n t) < h → properties_at h text (drop n t) ≡ done v w → took ≡ w
-passing-properties t n text {took} =
-    subst (λ (l : List ℕ). (h : ℕ) (v : List Property) (w : ℕ) → length l < h → properties_at h text l ≡ done v w → took ≡ w) (tail-part t n)
+passing_properties t n text {took} =
+    subst (λ (l : List ℕ). (h : ℕ) (v : List Property) (w : ℕ) → length l < h → properties_at h text l ≡ done v w → took ≡ w) (tail_part t n)

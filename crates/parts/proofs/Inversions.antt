@@ -30,41 +30,41 @@ pub never : {A B : Type 0} {x : Fault} {q : ℕ} {a : A} {u : ℕ} → stop x q 
 never e = let z : ◌≡◌ {A = ℕ} 0 1 = cc in absurd (omega arith)
 
 module _ {A : Type 0} where
-  pub from-done : (i : ℕ) (p : Parsed A) {a : A} {v : ℕ} → from i p ≡ done a v → (w : ℕ) × (p ≡ done a w) × (v ≡ i + w)
+  pub from_done : (i : ℕ) (p : Parsed A) {a : A} {v : ℕ} → from i p ≡ done a v → (w : ℕ) × (p ≡ done a w) × (v ≡ i + w)
   unfolding from
-  from-done i (done b w) e = (w, cc, cc)
-  from-done i (stop n q) e = never e
+  from_done i (done b w) e = (w, cc, cc)
+  from_done i (stop n q) e = never e
 
-  pub named-done : (b : Bounds) (p : Parsed A) {a : A} {u : ℕ} → named b p ≡ done a u → p ≡ done a u
+  pub named_done : (b : Bounds) (p : Parsed A) {a : A} {u : ℕ} → named b p ≡ done a u → p ≡ done a u
   unfolding named
-  named-done Outside p e = never e
-  named-done Cuts p e = never e
-  named-done Empty p e = never e
-  named-done Good p e = e
+  named_done Outside p e = never e
+  named_done Cuts p e = never e
+  named_done Empty p e = never e
+  named_done Good p e = e
 
-  pub spanned-done : (b : Bounds) (p : Parsed A) {a : A} {u : ℕ} → spanned b p ≡ done a u → (p ≡ done a u) × (b ≡ Outside → ⊥) × (b ≡ Cuts → ⊥)
+  pub spanned_done : (b : Bounds) (p : Parsed A) {a : A} {u : ℕ} → spanned b p ≡ done a u → (p ≡ done a u) × (b ≡ Outside → ⊥) × (b ≡ Cuts → ⊥)
   unfolding spanned
-  spanned-done Outside p e = never e
-  spanned-done Cuts p e = never e
-  spanned-done Empty p e = (e, λ h. let z : ◌≡◌ {A = ℕ} 0 1 = cc in omega arith, λ h. let z : ◌≡◌ {A = ℕ} 0 1 = cc in omega arith)
-  spanned-done Good p e = (e, λ h. let z : ◌≡◌ {A = ℕ} 0 1 = cc in omega arith, λ h. let z : ◌≡◌ {A = ℕ} 0 1 = cc in omega arith)
+  spanned_done Outside p e = never e
+  spanned_done Cuts p e = never e
+  spanned_done Empty p e = (e, λ h. let z : ◌≡◌ {A = ℕ} 0 1 = cc in omega arith, λ h. let z : ◌≡◌ {A = ℕ} 0 1 = cc in omega arith)
+  spanned_done Good p e = (e, λ h. let z : ◌≡◌ {A = ℕ} 0 1 = cc in omega arith, λ h. let z : ◌≡◌ {A = ℕ} 0 1 = cc in omega arith)
 
 module _ {A : Type 0} where
-  pub lettered-done : (text : List ℕ) (s : Span) (p : Parsed A) {a : A} {u : ℕ} → lettered text s p ≡ done a u
+  pub lettered_done : (text : List ℕ) (s : Span) (p : Parsed A) {a : A} {u : ℕ} → lettered text s p ≡ done a u
       → (p ≡ done a u) × (bounds_of text s ≡ Outside → ⊥) × (bounds_of text s ≡ Cuts → ⊥)
   unfolding lettered
-  lettered-done text s p {a} {u} e =
-      let r = spanned-done (bounds_of text s) (cond (has_reference (part_of text s)) (stop fault.Reference 0) p) e in
+  lettered_done text s p {a} {u} e =
+      let r = spanned_done (bounds_of text s) (cond (has_reference (part_of text s)) (stop fault.Reference 0) p) e in
       (go (has_reference (part_of text s)) r.0, r.1, r.2)
     where
       go : (b : Bool) → cond b (stop fault.Reference 0) p ≡ done a u → p ≡ done a u
       go true h = never h
       go false h = h
 
-  pub opened-done : (d : ℕ) (at : Place) (p : Parsed A) {a : A} {u : ℕ} → opened d at p ≡ done a u
+  pub opened_done : (d : ℕ) (at : Place) (p : Parsed A) {a : A} {u : ℕ} → opened d at p ≡ done a u
       → (w : ℕ) × (p ≡ done a w) × (u ≡ 9 + w) × (at.line ≡ 4294967295 → ⊥) × (at.column ≡ 4294967295 → ⊥)
   unfolding opened
-  opened-done d at p {a} {u} e = deep (leb 64 d) e
+  opened_done d at p {a} {u} e = deep (leb 64 d) e
     where
       no : false ≡ true → ⊥
       no h = let z : ◌≡◌ {A = ℕ} 0 1 = cc in omega arith
@@ -75,7 +75,7 @@ module _ {A : Type 0} where
       line true c h k e = never e
       line false true h k e = never e
       line false false h k e =
-          let r = from-done 9 p e in
+          let r = from_done 9 p e in
           (r.0, r.1, r.2, λ q. no (sym h ∙ eq-eqb _ _ q), λ q. no (sym k ∙ eq-eqb _ _ q))
 
       deep : (b : Bool)
@@ -85,15 +85,15 @@ module _ {A : Type 0} where
       deep false e = line (eqb at.line 4294967295) (eqb at.column 4294967295) refl refl e
 
 module _ {A B : Type 0} where
-  pub then-done : (p : Parsed A) (k : A → ℕ → Parsed B) {b : B} {v : ℕ} → (p then k) ≡ done b v → (a : A) × (u : ℕ) × (p ≡ done a u) × (k a u ≡ done b v)
+  pub then_done : (p : Parsed A) (k : A → ℕ → Parsed B) {b : B} {v : ℕ} → (p then k) ≡ done b v → (a : A) × (u : ℕ) × (p ≡ done a u) × (k a u ≡ done b v)
   unfolding ◌then◌
-  then-done (done a u) k e = (a, u, refl, e)
-  then-done (stop n q) k e = never e
+  then_done (done a u) k e = (a, u, refl, e)
+  then_done (stop n q) k e = never e
 
-  pub map-done : (g : A → B) (p : Parsed A) {b : B} {v : ℕ} → map g p ≡ done b v → (a : A) × (p ≡ done a v) × (b ≡ g a)
+  pub map_done : (g : A → B) (p : Parsed A) {b : B} {v : ℕ} → map g p ≡ done b v → (a : A) × (p ≡ done a v) × (b ≡ g a)
   unfolding map ◌then◌
-  map-done g (done a u) e = (a, cc, cc)
-  map-done g (stop n q) e = never e
+  map_done g (done a u) e = (a, cc, cc)
+  map_done g (stop n q) e = never e
 
 -- a reader of what stands u bytes further on
 abbrev pub At : {A : Type 0} → (List ℕ → Parsed A) → List ℕ → ℕ → Parsed A
@@ -117,7 +117,7 @@ pub record Within {A B : Type 0} (inner : ℕ → List ℕ → Parsed B) (read :
   pub turns : f ≡ suc fuel
   pub part : B
   pub took : ℕ
-  pub part-reads : inner fuel (drop m t) ≡ done part took
+  pub part_reads : inner fuel (drop m t) ≡ done part took
   pub rest : A
   pub size : ℕ
   pub is : x ≡ g part rest
@@ -127,23 +127,23 @@ pub record Within {A B : Type 0} (inner : ℕ → List ℕ → Parsed B) (read :
 module _ {A : Type 0} (read : ℕ → List ℕ → Parsed A) (t : List ℕ) (f : ℕ) where
   pub mapped : (n : ℕ) (g : A → A) {x : A} {u : ℕ} → map g (At (read f) t n) ≡ done x u → Behind read t (suc f) x u n g
   mapped n g e =
-      let m = map-done g (At (read f) t n) e in
-      let b = from-done n (read f (drop n t)) m.1 in
+      let m = map_done g (At (read f) t n) e in
+      let b = from_done n (read f (drop n t)) m.1 in
       record { fuel = f; turns = refl; rest = m.0; size = b.0; is = m.2; reads = b.1; used = b.2 }
 
   pub parted : {B : Type 0} (inner : ℕ → List ℕ → Parsed B) (m : ℕ) (g : B → A → A) {x : A} {u : ℕ}
       → (At (inner f) t m then λ y v. map (g y) (At (read f) t v)) ≡ done x u → Within inner read t (suc f) x u m g
   parted inner m g {x} {u} e =
-      let a = then-done (At (inner f) t m) (λ y v. map (g y) (At (read f) t v)) e in
-      let p = from-done m (inner f (drop m t)) a.2 in
-      let b = map-done (g a.0) (At (read f) t a.1) a.3 in
-      let r = from-done a.1 (read f (drop a.1 t)) b.1 in
+      let a = then_done (At (inner f) t m) (λ y v. map (g y) (At (read f) t v)) e in
+      let p = from_done m (inner f (drop m t)) a.2 in
+      let b = map_done (g a.0) (At (read f) t a.1) a.3 in
+      let r = from_done a.1 (read f (drop a.1 t)) b.1 in
       record {
         fuel = f;
         turns = refl;
         part = a.0;
         took = p.0;
-        part-reads = p.1;
+        part_reads = p.1;
         rest = b.0;
         size = r.0;
         is = b.2;
@@ -163,45 +163,45 @@ module _ (text t : List ℕ) (d : ℕ) where
   abbrev pub properties_read : ℕ → List ℕ → Parsed (List Property)
   properties_read f l = properties_at f text l
 
-  pub attributes-end : (f : ℕ) {a : Attributes} {u : ℕ} → attribute_command t ≡ attributes.End → attributes_at f text d t ≡ done a u → (a ≡ no_attributes) × (u ≡ 1)
+  pub attributes_end : (f : ℕ) {a : Attributes} {u : ℕ} → attribute_command t ≡ attributes.End → attributes_at f text d t ≡ done a u → (a ≡ no_attributes) × (u ≡ 1)
   unfolding attributes_at attributes_by
-  attributes-end zero c e = never e
-  attributes-end (suc f) {a} {u} c e = let h : done no_attributes 1 ≡ done a u = rw c at e in (cc, cc)
+  attributes_end zero c e = never e
+  attributes_end (suc f) {a} {u} c e = let h : done no_attributes 1 ≡ done a u = rw c at e in (cc, cc)
 
-  pub attributes-wrong : (f : ℕ) {a : Attributes} {u : ℕ} → attribute_command t ≡ attributes.Wrong → attributes_at f text d t ≡ done a u → ⊥
+  pub attributes_wrong : (f : ℕ) {a : Attributes} {u : ℕ} → attribute_command t ≡ attributes.Wrong → attributes_at f text d t ≡ done a u → ⊥
   unfolding attributes_at attributes_by
-  attributes-wrong zero c e = never e
-  attributes-wrong (suc f) c e = never (rw c at e)
+  attributes_wrong zero c e = never e
+  attributes_wrong (suc f) c e = never (rw c at e)
 
-  pub attributes-cut : (f : ℕ) {a : Attributes} {u : ℕ} → attribute_command t ≡ attributes.Cut → attributes_at f text d t ≡ done a u → ⊥
+  pub attributes_cut : (f : ℕ) {a : Attributes} {u : ℕ} → attribute_command t ≡ attributes.Cut → attributes_at f text d t ≡ done a u → ⊥
   unfolding attributes_at attributes_by
-  attributes-cut zero c e = never e
-  attributes-cut (suc f) c e = never (rw c at e)
+  attributes_cut zero c e = never e
+  attributes_cut (suc f) c e = never (rw c at e)
 
-  pub attributes-plain : (f : ℕ) (s : Span) {a : Attributes} {u : ℕ} → attribute_command t ≡ attributes.Plain s → attributes_at f text d t ≡ done a u
+  pub attributes_plain : (f : ℕ) (s : Span) {a : Attributes} {u : ℕ} → attribute_command t ≡ attributes.Plain s → attributes_at f text d t ≡ done a u
       → Within value_read attributes_read t f a u 5 (attribute s)
   unfolding attributes_at attributes_by
-  attributes-plain zero s c e = never e
-  attributes-plain (suc f) s c e = parted attributes_read t f value_read 5 (attribute s) (named-done (bounds_of text s) _ (rw c at e))
+  attributes_plain zero s c e = never e
+  attributes_plain (suc f) s c e = parted attributes_read t f value_read 5 (attribute s) (named_done (bounds_of text s) _ (rw c at e))
 
-  pub attributes-namespaced : (f : ℕ) (s r : Span) {a : Attributes} {u : ℕ} → attribute_command t ≡ attributes.Namespaced s r → attributes_at f text d t ≡ done a u
+  pub attributes_namespaced : (f : ℕ) (s r : Span) {a : Attributes} {u : ℕ} → attribute_command t ≡ attributes.Namespaced s r → attributes_at f text d t ≡ done a u
       → Within value_read attributes_read t f a u 9 (namespaced_attribute s r)
   unfolding attributes_at attributes_by
-  attributes-namespaced zero s r c e = never e
-  attributes-namespaced (suc f) s r c e =
-      parted attributes_read t f value_read 9 (namespaced_attribute s r) (named-done (worse (bounds_of text s) (bounds_of text r)) _ (rw c at e))
+  attributes_namespaced zero s r c e = never e
+  attributes_namespaced (suc f) s r c e =
+      parted attributes_read t f value_read 9 (namespaced_attribute s r) (named_done (worse (bounds_of text s) (bounds_of text r)) _ (rw c at e))
 
-  pub attributes-spread : (f x : ℕ) {a : Attributes} {u : ℕ} → attribute_command t ≡ attributes.Spread x → attributes_at f text d t ≡ done a u
+  pub attributes_spread : (f x : ℕ) {a : Attributes} {u : ℕ} → attribute_command t ≡ attributes.Spread x → attributes_at f text d t ≡ done a u
       → Behind attributes_read t f a u 3 (spread x)
   unfolding attributes_at attributes_by
-  attributes-spread zero x c e = never e
-  attributes-spread (suc f) x c e = mapped attributes_read t f 3 (spread x) (rw c at e)
+  attributes_spread zero x c e = never e
+  attributes_spread (suc f) x c e = mapped attributes_read t f 3 (spread x) (rw c at e)
 
-  pub attributes-literal : (f x : ℕ) {a : Attributes} {u : ℕ} → attribute_command t ≡ attributes.Literal x → attributes_at f text d t ≡ done a u
+  pub attributes_literal : (f x : ℕ) {a : Attributes} {u : ℕ} → attribute_command t ≡ attributes.Literal x → attributes_at f text d t ≡ done a u
       → Within properties_read attributes_read t f a u 3 (literal x)
   unfolding attributes_at attributes_by
-  attributes-literal zero x c e = never e
-  attributes-literal (suc f) x c e = parted attributes_read t f properties_read 3 (literal x) (rw c at e)
+  attributes_literal zero x c e = never e
+  attributes_literal (suc f) x c e = parted attributes_read t f properties_read 3 (literal x) (rw c at e)
 
 -- ---- values
 
@@ -222,50 +222,50 @@ module _ (text t : List ℕ) (d : ℕ) where
   abbrev pub fragment_read : Place → ℕ → List ℕ → Parsed Node
   fragment_read p f l = fragment_at f text d p l
 
-  pub value-absent : (f : ℕ) {v : Value} {u : ℕ} → value_command t ≡ values.Absent → value_at f text d t ≡ done v u → (v ≡ absent) × (u ≡ 1)
+  pub value_absent : (f : ℕ) {v : Value} {u : ℕ} → value_command t ≡ values.Absent → value_at f text d t ≡ done v u → (v ≡ absent) × (u ≡ 1)
   unfolding value_at value_by
-  value-absent zero c e = never e
-  value-absent (suc f) {v} {u} c e = let h : done absent 1 ≡ done v u = rw c at e in (cc, cc)
+  value_absent zero c e = never e
+  value_absent (suc f) {v} {u} c e = let h : done absent 1 ≡ done v u = rw c at e in (cc, cc)
 
-  pub value-empty : (f : ℕ) {v : Value} {u : ℕ} → value_command t ≡ values.Empty → value_at f text d t ≡ done v u → (v ≡ empty) × (u ≡ 1)
+  pub value_empty : (f : ℕ) {v : Value} {u : ℕ} → value_command t ≡ values.Empty → value_at f text d t ≡ done v u → (v ≡ empty) × (u ≡ 1)
   unfolding value_at value_by
-  value-empty zero c e = never e
-  value-empty (suc f) {v} {u} c e = let h : done empty 1 ≡ done v u = rw c at e in (cc, cc)
+  value_empty zero c e = never e
+  value_empty (suc f) {v} {u} c e = let h : done empty 1 ≡ done v u = rw c at e in (cc, cc)
 
-  pub value-expression : (f x : ℕ) {v : Value} {u : ℕ} → value_command t ≡ values.Expression x → value_at f text d t ≡ done v u → (v ≡ expression x) × (u ≡ 3)
+  pub value_expression : (f x : ℕ) {v : Value} {u : ℕ} → value_command t ≡ values.Expression x → value_at f text d t ≡ done v u → (v ≡ expression x) × (u ≡ 3)
   unfolding value_at value_by
-  value-expression zero x c e = never e
-  value-expression (suc f) x {v} {u} c e = let h : done (expression x) 3 ≡ done v u = rw c at e in (cc, cc)
+  value_expression zero x c e = never e
+  value_expression (suc f) x {v} {u} c e = let h : done (expression x) 3 ≡ done v u = rw c at e in (cc, cc)
 
-  pub value-text : (f : ℕ) (s : Span) {v : Value} {u : ℕ} → value_command t ≡ values.Text s → value_at f text d t ≡ done v u → (v ≡ string s) × (u ≡ 5)
+  pub value_text : (f : ℕ) (s : Span) {v : Value} {u : ℕ} → value_command t ≡ values.Text s → value_at f text d t ≡ done v u → (v ≡ string s) × (u ≡ 5)
   unfolding value_at value_by
-  value-text zero s c e = never e
-  value-text (suc f) s {v} {u} c e = let h : done (string s) 5 ≡ done v u = (lettered-done text s (done (string s) 5) (rw c at e)).0 in (cc, cc)
+  value_text zero s c e = never e
+  value_text (suc f) s {v} {u} c e = let h : done (string s) 5 ≡ done v u = (lettered_done text s (done (string s) 5) (rw c at e)).0 in (cc, cc)
 
-  pub value-wrong : (f : ℕ) {v : Value} {u : ℕ} → value_command t ≡ values.Wrong → value_at f text d t ≡ done v u → ⊥
+  pub value_wrong : (f : ℕ) {v : Value} {u : ℕ} → value_command t ≡ values.Wrong → value_at f text d t ≡ done v u → ⊥
   unfolding value_at value_by
-  value-wrong zero c e = never e
-  value-wrong (suc f) c e = never (rw c at e)
+  value_wrong zero c e = never e
+  value_wrong (suc f) c e = never (rw c at e)
 
-  pub value-cut : (f : ℕ) {v : Value} {u : ℕ} → value_command t ≡ values.Cut → value_at f text d t ≡ done v u → ⊥
+  pub value_cut : (f : ℕ) {v : Value} {u : ℕ} → value_command t ≡ values.Cut → value_at f text d t ≡ done v u → ⊥
   unfolding value_at value_by
-  value-cut zero c e = never e
-  value-cut (suc f) c e = never (rw c at e)
+  value_cut zero c e = never e
+  value_cut (suc f) c e = never (rw c at e)
 
-  pub value-element : (f : ℕ) (p : Place) {v : Value} {u : ℕ} → value_command t ≡ values.Element p → value_at f text d t ≡ done v u
+  pub value_element : (f : ℕ) (p : Place) {v : Value} {u : ℕ} → value_command t ≡ values.Element p → value_at f text d t ≡ done v u
       → (n : Node) × (v ≡ node_value n) × Opening (element_read p) t f p n u
   unfolding value_at value_by
-  value-element zero p c e = never e
-  value-element (suc f) p {v} {u} c e =
-      let m = map-done node_value (opened d p (element_at f text d p (drop 9 t))) (rw c at e) in
-      let o = opened-done d p (element_at f text d p (drop 9 t)) m.1 in
+  value_element zero p c e = never e
+  value_element (suc f) p {v} {u} c e =
+      let m = map_done node_value (opened d p (element_at f text d p (drop 9 t))) (rw c at e) in
+      let o = opened_done d p (element_at f text d p (drop 9 t)) m.1 in
       (m.0, m.2, record { fuel = f; turns = refl; took = o.0; reads = o.1; used = o.2; line = o.3; column = o.4 })
 
-  pub value-fragment : (f : ℕ) (p : Place) {v : Value} {u : ℕ} → value_command t ≡ values.Fragment p → value_at f text d t ≡ done v u
+  pub value_fragment : (f : ℕ) (p : Place) {v : Value} {u : ℕ} → value_command t ≡ values.Fragment p → value_at f text d t ≡ done v u
       → (n : Node) × (v ≡ node_value n) × Opening (fragment_read p) t f p n u
   unfolding value_at value_by
-  value-fragment zero p c e = never e
-  value-fragment (suc f) p {v} {u} c e =
-      let m = map-done node_value (opened d p (fragment_at f text d p (drop 9 t))) (rw c at e) in
-      let o = opened-done d p (fragment_at f text d p (drop 9 t)) m.1 in
+  value_fragment zero p c e = never e
+  value_fragment (suc f) p {v} {u} c e =
+      let m = map_done node_value (opened d p (fragment_at f text d p (drop 9 t))) (rw c at e) in
+      let o = opened_done d p (fragment_at f text d p (drop 9 t)) m.1 in
       (m.0, m.2, record { fuel = f; turns = refl; took = o.0; reads = o.1; used = o.2; line = o.3; column = o.4 })

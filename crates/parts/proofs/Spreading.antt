@@ -7,7 +7,7 @@ use Prim.Native.Nat.{ℕ, ◌+◌, ◌-◌, ◌≤◌, ◌<◌}
 use native.Mathlib.Omega.{arith}
 use lib.ListN.{length, take, drop, length-drop}
 use Rattle.text.specs.declared.spans.Span.{Span}
-use Rattle.text.proofs.Lists.{tail-part}
+use Rattle.text.proofs.Lists.{tail_part}
 use Rattle.commands.specs.declared.root.Place.{Place}
 use Rattle.commands.specs.declared.root.AttributeCommand.{AttributeCommand}
 use Rattle.commands.specs.declared.root.AttributeCommand.TheVariants as attributes
@@ -22,7 +22,7 @@ use Rattle.definitions.specs.Lowering.{Context, Output, emit, put, put_over, has
 use Rattle.parts.specs.declared.jsx_impl.Lone.{Lone}
 use Rattle.parts.specs.declared.jsx_impl.Lone.TheVariants as lone
 use Rattle.parts.specs.Promises.{some_output, SoleAt, Alone, LoneWithin}
-use Rattle.parts.proofs.Inversions.{attributes-end, attributes-wrong, attributes-cut, attributes-plain, attributes-namespaced, attributes-spread, attributes-literal}
+use Rattle.parts.proofs.Inversions.{attributes_end, attributes_wrong, attributes_cut, attributes_plain, attributes_namespaced, attributes_spread, attributes_literal}
 
 -- ---- whether the attributes end n bytes behind the front
 
@@ -30,47 +30,47 @@ module _ (t q : List ℕ) (x n : ℕ) (here : q ≡ drop n t) where
   at : {r : AttributeCommand} → attribute_command q ≡ r → attribute_command (drop n t) ≡ r
   at k = ap attribute_command (sym here) ∙ k
 
-  pub alone-end : attribute_command q ≡ attributes.End → n < length t → Alone t x n (lone.Sole x (n + 1))
+  pub alone_end : attribute_command q ≡ attributes.End → n < length t → Alone t x n (lone.Sole x (n + 1))
   unfolding Alone
-  alone-end k h = (refl, refl, h, λ f d text a u e. attributes-end text (drop n t) d f (at k) e)
+  alone_end k h = (refl, refl, h, λ f d text a u e. attributes_end text (drop n t) d f (at k) e)
 
-  pub alone-plain : (s : Span) → attribute_command q ≡ attributes.Plain s → Alone t x n lone.Object
+  pub alone_plain : (s : Span) → attribute_command q ≡ attributes.Plain s → Alone t x n lone.Object
   unfolding Alone is_last
-  alone-plain s k f d text a u e = rw (attributes-plain text (drop n t) d f s (at k) e).is refl
+  alone_plain s k f d text a u e = rw (attributes_plain text (drop n t) d f s (at k) e).is refl
 
-  pub alone-namespaced : (s r : Span) → attribute_command q ≡ attributes.Namespaced s r → Alone t x n lone.Object
+  pub alone_namespaced : (s r : Span) → attribute_command q ≡ attributes.Namespaced s r → Alone t x n lone.Object
   unfolding Alone is_last
-  alone-namespaced s r k f d text a u e = rw (attributes-namespaced text (drop n t) d f s r (at k) e).is refl
+  alone_namespaced s r k f d text a u e = rw (attributes_namespaced text (drop n t) d f s r (at k) e).is refl
 
-  pub alone-spread : (y : ℕ) → attribute_command q ≡ attributes.Spread y → Alone t x n lone.Object
+  pub alone_spread : (y : ℕ) → attribute_command q ≡ attributes.Spread y → Alone t x n lone.Object
   unfolding Alone is_last
-  alone-spread y k f d text a u e = rw (attributes-spread text (drop n t) d f y (at k) e).is refl
+  alone_spread y k f d text a u e = rw (attributes_spread text (drop n t) d f y (at k) e).is refl
 
-  pub alone-literal : (y : ℕ) → attribute_command q ≡ attributes.Literal y → Alone t x n lone.Object
+  pub alone_literal : (y : ℕ) → attribute_command q ≡ attributes.Literal y → Alone t x n lone.Object
   unfolding Alone is_last
-  alone-literal y k f d text a u e = rw (attributes-literal text (drop n t) d f y (at k) e).is refl
+  alone_literal y k f d text a u e = rw (attributes_literal text (drop n t) d f y (at k) e).is refl
 
-  pub alone-wrong : attribute_command q ≡ attributes.Wrong → Alone t x n lone.Object
+  pub alone_wrong : attribute_command q ≡ attributes.Wrong → Alone t x n lone.Object
   unfolding Alone
-  alone-wrong k f d text a u e = absurd (attributes-wrong text (drop n t) d f (at k) e)
+  alone_wrong k f d text a u e = absurd (attributes_wrong text (drop n t) d f (at k) e)
 
-  pub alone-cut : attribute_command q ≡ attributes.Cut → Alone t x n lone.Object
+  pub alone_cut : attribute_command q ≡ attributes.Cut → Alone t x n lone.Object
   unfolding Alone
-  alone-cut k f d text a u e = absurd (attributes-cut text (drop n t) d f (at k) e)
+  alone_cut k f d text a u e = absurd (attributes_cut text (drop n t) d f (at k) e)
 
 -- ---- a lone spread
 
-no-spread : (c : Context) (a : Attributes) → plugins_off c ≡ false → (object : List Output) → lone_spread_or c a object ≡ object
+no_spread : (c : Context) (a : Attributes) → plugins_off c ≡ false → (object : List Output) → lone_spread_or c a object ≡ object
 unfolding lone_spread_or
-no-spread c no_attributes h object = refl
-no-spread c (attribute s v a) h object = refl
-no-spread c (namespaced_attribute s r v a) h object = refl
-no-spread c (spread e a) h object = go (is_last a)
+no_spread c no_attributes h object = refl
+no_spread c (attribute s v a) h object = refl
+no_spread c (namespaced_attribute s r v a) h object = refl
+no_spread c (spread e a) h object = go (is_last a)
   where
     go : (b : Bool) → cond (b && plugins_off c) (put_over call.sole_spread e) object ≡ object
     go true = rw h refl
     go false = refl
-no-spread c (literal e ps a) h object = go (is_last a)
+no_spread c (literal e ps a) h object = go (is_last a)
   where
     go : (b : Bool) → cond (b && plugins_off c && not (has_proto c ps)) (put_over call.sole_spread e) object ≡ object
     go true = rw h refl
@@ -94,33 +94,33 @@ protoed true false h x y i = refl
 protoed false p h x y i = refl
 
 -- with a plugin on there is none
-pub lone-on : (c : Context) (a : Attributes) (u : ℕ) → plugins_off c ≡ false → SoleAt c a u lone.Object
+pub lone_on : (c : Context) (a : Attributes) (u : ℕ) → plugins_off c ≡ false → SoleAt c a u lone.Object
 unfolding SoleAt
-lone-on c a u h = no-spread c a h
+lone_on c a u h = no_spread c a h
 
 module _ (c : Context) (text t : List ℕ) (f d : ℕ) (a : Attributes) (u : ℕ) (e : attributes_at f text d t ≡ done a u) where
-  pub lone-plain : (s : Span) → attribute_command t ≡ attributes.Plain s → SoleAt c a u lone.Object
+  pub lone_plain : (s : Span) → attribute_command t ≡ attributes.Plain s → SoleAt c a u lone.Object
   unfolding SoleAt lone_spread_or
-  lone-plain s k = λ object. ap (λ (b : Attributes). lone_spread_or c b object) (attributes-plain text t d f s k e).is
+  lone_plain s k = λ object. ap (λ (b : Attributes). lone_spread_or c b object) (attributes_plain text t d f s k e).is
 
-  pub lone-namespaced : (s r : Span) → attribute_command t ≡ attributes.Namespaced s r → SoleAt c a u lone.Object
+  pub lone_namespaced : (s r : Span) → attribute_command t ≡ attributes.Namespaced s r → SoleAt c a u lone.Object
   unfolding SoleAt lone_spread_or
-  lone-namespaced s r k = λ object. ap (λ (b : Attributes). lone_spread_or c b object) (attributes-namespaced text t d f s r k e).is
+  lone_namespaced s r k = λ object. ap (λ (b : Attributes). lone_spread_or c b object) (attributes_namespaced text t d f s r k e).is
 
-  pub lone-end : attribute_command t ≡ attributes.End → SoleAt c a u lone.Object
+  pub lone_end : attribute_command t ≡ attributes.End → SoleAt c a u lone.Object
   unfolding SoleAt lone_spread_or
-  lone-end k = λ object. ap (λ (b : Attributes). lone_spread_or c b object) (attributes-end text t d f k e).0
+  lone_end k = λ object. ap (λ (b : Attributes). lone_spread_or c b object) (attributes_end text t d f k e).0
 
-  pub lone-wrong : attribute_command t ≡ attributes.Wrong → SoleAt c a u lone.Object
-  lone-wrong k = absurd (attributes-wrong text t d f k e)
+  pub lone_wrong : attribute_command t ≡ attributes.Wrong → SoleAt c a u lone.Object
+  lone_wrong k = absurd (attributes_wrong text t d f k e)
 
-  pub lone-cut : attribute_command t ≡ attributes.Cut → SoleAt c a u lone.Object
-  lone-cut k = absurd (attributes-cut text t d f k e)
+  pub lone_cut : attribute_command t ≡ attributes.Cut → SoleAt c a u lone.Object
+  lone_cut k = absurd (attributes_cut text t d f k e)
 
-  pub lone-spread : (x : ℕ) (r : Lone) → attribute_command t ≡ attributes.Spread x → plugins_off c ≡ true → Alone t x 3 r → SoleAt c a u r
+  pub lone_spread : (x : ℕ) (r : Lone) → attribute_command t ≡ attributes.Spread x → plugins_off c ≡ true → Alone t x 3 r → SoleAt c a u r
   unfolding SoleAt lone_spread_or Alone is_last
-  lone-spread x (lone.Sole y m) k off A =
-      let W = attributes-spread text t d f x k e in
+  lone_spread x (lone.Sole y m) k off A =
+      let W = attributes_spread text t d f x k e in
       let B = A.3 W.fuel d text W.rest W.size W.reads in (
         omega (arith, W.used, A.1, B.1),
         λ object.
@@ -129,18 +129,18 @@ module _ (c : Context) (text t : List ℕ) (f d : ℕ) (a : Attributes) (u : ℕ
             ∙ taken (plugins_off c) (put_over call.sole_spread x) object off
             ∙ ap (λ (q : ℕ). put_over call.sole_spread q) (sym A.0),
       )
-  lone-spread x lone.Object k off A = λ object.
-      let W = attributes-spread text t d f x k e in
+  lone_spread x lone.Object k off A = λ object.
+      let W = attributes_spread text t d f x k e in
       ap (λ (b : Attributes). lone_spread_or c b object) W.is
       ∙ refused (is_last W.rest) (plugins_off c) (put_over call.sole_spread x) object (A W.fuel d text W.rest W.size W.reads)
 
-  pub lone-literal : (x : ℕ) (r : Lone) (took : ℕ) (proto : Bool) → attribute_command t ≡ attributes.Literal x → plugins_off c ≡ true
+  pub lone_literal : (x : ℕ) (r : Lone) (took : ℕ) (proto : Bool) → attribute_command t ≡ attributes.Literal x → plugins_off c ≡ true
       → ((h : ℕ) (ps : List Property) (w : ℕ) → length (drop 3 t) < h → properties_at h text (drop 3 t) ≡ done ps w → (proto ≡ has_proto c ps) × (took ≡ w))
       → length t < f → 3 ≤ length t → proto ≡ false → Alone t x (3 + took) r → SoleAt c a u r
   unfolding SoleAt lone_spread_or Alone is_last
-  lone-literal x (lone.Sole y m) took proto k off P enough three hn A =
-      let W = attributes-literal text t d f x k e in
-      let Q = P W.fuel W.part W.took (omega (arith, W.turns, length-drop 3 t)) W.part-reads in
+  lone_literal x (lone.Sole y m) took proto k off P enough three hn A =
+      let W = attributes_literal text t d f x k e in
+      let Q = P W.fuel W.part W.took (omega (arith, W.turns, length-drop 3 t)) W.part_reads in
       let B = A.3 W.fuel d text W.rest W.size (ap (λ (q : ℕ). attributes_at W.fuel text d (drop (3 + q) t)) Q.1 ∙ W.reads) in
       let z : has_proto c W.part ≡ false = sym Q.0 ∙ hn in (
         omega (arith, W.used, A.1, B.1, Q.1),
@@ -150,41 +150,41 @@ module _ (c : Context) (text t : List ℕ) (f d : ℕ) (a : Attributes) (u : ℕ
             ∙ taken₂ (plugins_off c) (has_proto c W.part) (put_over call.sole_spread x) object off z
             ∙ ap (λ (q : ℕ). put_over call.sole_spread q) (sym A.0),
       )
-  lone-literal x lone.Object took proto k off P enough three hn A = λ object.
-      let W = attributes-literal text t d f x k e in
-      let Q = P W.fuel W.part W.took (omega (arith, W.turns, length-drop 3 t)) W.part-reads in
+  lone_literal x lone.Object took proto k off P enough three hn A = λ object.
+      let W = attributes_literal text t d f x k e in
+      let Q = P W.fuel W.part W.took (omega (arith, W.turns, length-drop 3 t)) W.part_reads in
       ap (λ (b : Attributes). lone_spread_or c b object) W.is
       ∙ refused₂ (is_last W.rest) (plugins_off c) (has_proto c W.part) (put_over call.sole_spread x) object
       (A W.fuel d text W.rest W.size (ap (λ (q : ℕ). attributes_at W.fuel text d (drop (3 + q) t)) Q.1 ∙ W.reads))
 
-  pub lone-proto : (x took : ℕ) (proto : Bool) → attribute_command t ≡ attributes.Literal x
+  pub lone_proto : (x took : ℕ) (proto : Bool) → attribute_command t ≡ attributes.Literal x
       → ((h : ℕ) (ps : List Property) (w : ℕ) → length (drop 3 t) < h → properties_at h text (drop 3 t) ≡ done ps w → (proto ≡ has_proto c ps) × (took ≡ w))
       → length t < f → 3 ≤ length t → proto ≡ true → SoleAt c a u lone.Object
   unfolding SoleAt lone_spread_or
-  lone-proto x took proto k P enough three hy = λ object.
-      let W = attributes-literal text t d f x k e in
-      let Q = P W.fuel W.part W.took (omega (arith, W.turns, length-drop 3 t)) W.part-reads in
+  lone_proto x took proto k P enough three hy = λ object.
+      let W = attributes_literal text t d f x k e in
+      let Q = P W.fuel W.part W.took (omega (arith, W.turns, length-drop 3 t)) W.part_reads in
       let z : has_proto c W.part ≡ true = sym Q.0 ∙ hy in
       ap (λ (b : Attributes). lone_spread_or c b object) W.is ∙ protoed (is_last W.rest) (plugins_off c) (has_proto c W.part) (put_over call.sole_spread x) object z
 
 -- ---- whether there is a property
 
-pub some-append : (xs ys : List Output) → some_output (xs ++ ys) ≡ (some_output xs || some_output ys)
+pub some_append : (xs ys : List Output) → some_output (xs ++ ys) ≡ (some_output xs || some_output ys)
 unfolding some_output
-some-append [] ys = refl
-some-append (x ∷ xs) ys = refl
+some_append [] ys = refl
+some_append (x ∷ xs) ys = refl
 
-some-self : (c : Context) → some_output (self_output c) ≡ (c.settings.options.flags.self_plugin && c.self_allowed)
+some_self : (c : Context) → some_output (self_output c) ≡ (c.settings.options.flags.self_plugin && c.self_allowed)
 unfolding some_output self_output
-some-self c = go (c.settings.options.flags.self_plugin && c.self_allowed)
+some_self c = go (c.settings.options.flags.self_plugin && c.self_allowed)
   where
     go : (b : Bool) → some_output (cond b (put call.self) []) ≡ b
     go true = refl
     go false = refl
 
-some-source : (c : Context) (p : Place) → some_output (source_output c p) ≡ c.settings.options.flags.source_plugin
+some_source : (c : Context) (p : Place) → some_output (source_output c p) ≡ c.settings.options.flags.source_plugin
 unfolding some_output source_output
-some-source c p = go c.settings.options.flags.source_plugin
+some_source c p = go c.settings.options.flags.source_plugin
   where
     go : (b : Bool) → some_output (cond b (emit (call.source FileName (record { line = p.line + 1; column = p.column + 1 })) ∷ []) []) ≡ b
     go true = refl
@@ -194,10 +194,10 @@ more : (c : Context) (p : Place) (os : List Output)
     → some_output ((os ++ self_output c) ++ source_output c p)
     ≡ ((some_output os || (c.settings.options.flags.self_plugin && c.self_allowed)) || c.settings.options.flags.source_plugin)
 more c p os =
-    some-append (os ++ self_output c) (source_output c p)
-    ∙ ap (λ (b : Bool). b || some_output (source_output c p)) (some-append os (self_output c))
-    ∙ ap (λ (b : Bool). (some_output os || b) || some_output (source_output c p)) (some-self c)
-    ∙ ap (λ (b : Bool). (some_output os || (c.settings.options.flags.self_plugin && c.self_allowed)) || b) (some-source c p)
+    some_append (os ++ self_output c) (source_output c p)
+    ∙ ap (λ (b : Bool). b || some_output (source_output c p)) (some_append os (self_output c))
+    ∙ ap (λ (b : Bool). (some_output os || b) || some_output (source_output c p)) (some_self c)
+    ∙ ap (λ (b : Bool). (some_output os || (c.settings.options.flags.self_plugin && c.self_allowed)) || b) (some_source c p)
 
 third : (x y z : Bool) → z ≡ true → ((x || y) || z) ≡ true
 third true y z h = refl
@@ -212,19 +212,19 @@ second x y w z h i j = rw (h, i, j) (last w)
     last false = refl
 
 module _ (c : Context) (p : Place) (os : List Output) where
-  pub more-some : some_output os ≡ true → true ≡ some_output ((os ++ self_output c) ++ source_output c p)
-  more-some h = sym (more c p os ∙ rw h refl)
+  pub more_some : some_output os ≡ true → true ≡ some_output ((os ++ self_output c) ++ source_output c p)
+  more_some h = sym (more c p os ∙ rw h refl)
 
-  pub more-source : c.settings.options.flags.source_plugin ≡ true → true ≡ some_output ((os ++ self_output c) ++ source_output c p)
-  more-source h = sym (more c p os ∙ third (some_output os) (c.settings.options.flags.self_plugin && c.self_allowed) c.settings.options.flags.source_plugin h)
+  pub more_source : c.settings.options.flags.source_plugin ≡ true → true ≡ some_output ((os ++ self_output c) ++ source_output c p)
+  more_source h = sym (more c p os ∙ third (some_output os) (c.settings.options.flags.self_plugin && c.self_allowed) c.settings.options.flags.source_plugin h)
 
-  pub more-self : some_output os ≡ false → c.settings.options.flags.source_plugin ≡ false → c.settings.options.flags.self_plugin ≡ true
+  pub more_self : some_output os ≡ false → c.settings.options.flags.source_plugin ≡ false → c.settings.options.flags.self_plugin ≡ true
       → c.self_allowed ≡ some_output ((os ++ self_output c) ++ source_output c p)
-  more-self h i j = sym (more c p os ∙ second (some_output os) c.settings.options.flags.self_plugin c.self_allowed c.settings.options.flags.source_plugin h i j)
+  more_self h i j = sym (more c p os ∙ second (some_output os) c.settings.options.flags.self_plugin c.self_allowed c.settings.options.flags.source_plugin h i j)
 
-  pub more-none : some_output os ≡ false → c.settings.options.flags.source_plugin ≡ false → c.settings.options.flags.self_plugin ≡ false
+  pub more_none : some_output os ≡ false → c.settings.options.flags.source_plugin ≡ false → c.settings.options.flags.self_plugin ≡ false
       → false ≡ some_output ((os ++ self_output c) ++ source_output c p)
-  more-none h i j = sym (more c p os ∙ rw (h, i, j) refl)
+  more_none h i j = sym (more c p os ∙ rw (h, i, j) refl)
 
 -- ---- what the code tests
 
@@ -232,39 +232,39 @@ abbrev flags_off : Settings → Bool
 flags_off s = not (s.options.flags.self_plugin || s.options.flags.source_plugin)
 
 module _ (c : Context) (s : Settings) (same : c.settings ≡ s) where
-  off-as : {b : Bool} → flags_off s ≡ b → plugins_off c ≡ b
-  off-as e = ap (λ (x : Settings). flags_off x) same ∙ e
+  off_as : {b : Bool} → flags_off s ≡ b → plugins_off c ≡ b
+  off_as e = ap (λ (x : Settings). flags_off x) same ∙ e
 
-  pub on-self : s.options.flags.self_plugin ≡ true → plugins_off c ≡ false
-  on-self h = off-as (go s.options.flags.self_plugin s.options.flags.source_plugin h)
+  pub on_self : s.options.flags.self_plugin ≡ true → plugins_off c ≡ false
+  on_self h = off_as (go s.options.flags.self_plugin s.options.flags.source_plugin h)
     where
       go : (x y : Bool) → x ≡ true → not (x || y) ≡ false
       go x y h = rw h refl
 
-  pub on-source : s.options.flags.source_plugin ≡ true → plugins_off c ≡ false
-  on-source h = off-as (go s.options.flags.self_plugin s.options.flags.source_plugin h)
+  pub on_source : s.options.flags.source_plugin ≡ true → plugins_off c ≡ false
+  on_source h = off_as (go s.options.flags.self_plugin s.options.flags.source_plugin h)
     where
       go : (x y : Bool) → y ≡ true → not (x || y) ≡ false
       go true y h = refl
       go false y h = rw h refl
 
-  pub off-both : s.options.flags.self_plugin ≡ false → s.options.flags.source_plugin ≡ false → plugins_off c ≡ true
-  off-both h i = off-as (go s.options.flags.self_plugin s.options.flags.source_plugin h i)
+  pub off_both : s.options.flags.self_plugin ≡ false → s.options.flags.source_plugin ≡ false → plugins_off c ≡ true
+  off_both h i = off_as (go s.options.flags.self_plugin s.options.flags.source_plugin h i)
     where
       go : (x y : Bool) → x ≡ false → y ≡ false → not (x || y) ≡ true
       go x y h i = rw (h, i) refl
 
-pub alone-within : (t : List ℕ) (x n : ℕ) (r : Lone) → Alone t x n r → LoneWithin (length t) r
+pub alone_within : (t : List ℕ) (x n : ℕ) (r : Lone) → Alone t x n r → LoneWithin (length t) r
 unfolding Alone
-alone-within t x n (lone.Sole e m) A = omega (arith, A.1, A.2)
-alone-within t x n lone.Object A = tt
+alone_within t x n (lone.Sole e m) A = omega (arith, A.1, A.2)
+alone_within t x n lone.Object A = tt
 
 -- what is told of the properties behind n bytes
-pub proto-behind : (t : List ℕ) (n : ℕ) (text : List ℕ) (c : Context) {found : Bool} {took : ℕ}
+pub proto_behind : (t : List ℕ) (n : ℕ) (text : List ℕ) (c : Context) {found : Bool} {took : ℕ}
     → ((h : ℕ) (ps : List Property) (w : ℕ) → length (take (length t - n) (drop n t)) < h → properties_at h text (take (length t - n) (drop n t)) ≡ done ps w
     → (found ≡ has_proto c ps) × (took ≡ w))
     → (h : ℕ) (ps : List Property) (w : ℕ) → length (drop n t) < h → properties_at h text (drop n t) ≡ done ps w → (found ≡ has_proto c ps) × (took ≡ w)
-proto-behind t n text c {found} {took} =
+proto_behind t n text c {found} {took} =
     subst
     (λ (l : List ℕ). (h : ℕ) (ps : List Property) (w : ℕ) → length l < h → properties_at h text l ≡ done ps w → (found ≡ has_proto c ps) × (took ≡ w))
-    (tail-part t n)
+    (tail_part t n)

@@ -1,6 +1,6 @@
 -- A pen over a sound state's records, and what counting a root's output comes to.
---     state-stands      a pen over the records of a sound state stands
---     calls-small, ..   a root's output is far from the limit of places
+--     state_stands      a pen over the records of a sound state stands
+--     calls_small, ..   a root's output is far from the limit of places
 --     counted           a pen that counted from nothing tells the sizes of what a root adds
 -- Assumes nothing.
 use Rattle.std.proofs.Common.{◌≡◌, ℕ, ◌*◌, ◌^◌, ◌≤◌, Bool, true, false, ◌||◌, ltb, List, length, ap, ◌∙◌, arith}
@@ -14,10 +14,10 @@ use Rattle.definitions.specs.Reading.{read_root}
 use Rattle.definitions.specs.Lowering.{lower_root, can_add_self}
 use Rattle.definitions.specs.States.{live, imports, sound}
 use Rattle.definitions.specs.Entries.{lowered_after}
-use Rattle.definitions.proofs.Weights.{weight, calls-weigh, notices-weigh, node-weighs}
-use Rattle.definitions.proofs.TreeSizes.{root-size}
+use Rattle.definitions.proofs.Weights.{weight, calls_weigh, notices_weigh, node_weighs}
+use Rattle.definitions.proofs.TreeSizes.{root_size}
 use Rattle.store.specs.Adding.{store_of}
-use Rattle.store.proofs.Soundness.{sound-holds}
+use Rattle.store.proofs.Soundness.{sound_holds}
 use Rattle.pen.specs.declared.pen.Pen.{Pen}
 use Rattle.pen.specs.Emitting.{calls_from, notices_from, bound_from, Stands, Emitted}
 
@@ -25,23 +25,23 @@ use Rattle.pen.specs.Emitting.{calls_from, notices_from, bound_from, Stands, Emi
 abbrev pub pen_of : State → ℕ → ℕ → Pen
 pen_of s calls notices = record { calls = calls; notices = notices; store = store_of s; full = false }
 
-pub state-stands : (text : List ℕ) (s : State) (calls notices : ℕ) → length s.records ≡ 8 → sound text s ≡ true → calls ≤ 2 ^ 63 → notices ≤ 2 ^ 63
+pub state_stands : (text : List ℕ) (s : State) (calls notices : ℕ) → length s.records ≡ 8 → sound text s ≡ true → calls ≤ 2 ^ 63 → notices ≤ 2 ^ 63
     → Stands s.records (imports (live s)) (pen_of s calls notices)
-state-stands text s calls notices eight good h k = record { store = λ free. sound-holds text s good eight; calls-small = h; notices-small = k }
+state_stands text s calls notices eight good h k = record { store = λ free. sound_holds text s good eight; calls_small = h; notices_small = k }
 
 -- ---- sizes
 
 module _ (text tape : List ℕ) (s : Settings) (js : List Import) (r : Root) (u : ℕ) (short : length text ≤ 65535) (within : u ≤ 65535) (reads : read_root text tape ≡ done r u) where
-  output-small : weight (lower_root text s r) ≤ 400000 * 65535
+  output_small : weight (lower_root text s r) ≤ 400000 * 65535
   unfolding lower_root
-  output-small =
-      omega (arith, node-weighs (record { text = text; settings = s; self_allowed = can_add_self r }) short r.node, root-size text tape r u reads)
+  output_small =
+      omega (arith, node_weighs (record { text = text; settings = s; self_allowed = can_add_self r }) short r.node, root_size text tape r u reads)
 
-  pub calls-small : length (calls_from js (lower_root text s r)) ≤ 400000 * 65535
-  calls-small = omega (arith, calls-weigh js (lower_root text s r), output-small)
+  pub calls_small : length (calls_from js (lower_root text s r)) ≤ 400000 * 65535
+  calls_small = omega (arith, calls_weigh js (lower_root text s r), output_small)
 
-  pub notices-small : length (notices_from (lower_root text s r)) ≤ 400000 * 65535
-  notices-small = omega (arith, notices-weigh (lower_root text s r), output-small)
+  pub notices_small : length (notices_from (lower_root text s r)) ≤ 400000 * 65535
+  notices_small = omega (arith, notices_weigh (lower_root text s r), output_small)
 
   -- a pen that counted from nothing tells the sizes
   pub counted : {a : List Record} {cs cs' ns ns' : List ℕ} {p p' : Pen} → p.calls ≡ 0 → p.notices ≡ 0 → p.full ≡ false
@@ -52,6 +52,6 @@ module _ (text tape : List ℕ) (s : Settings) (js : List Import) (r : Root) (u 
   unfolding lowered_after
   counted x y z e = (
     e.fullness ∙ ap (λ (b : Bool). b || ltb 8 (length (bound_from js (lower_root text s r)))) z,
-    omega (arith, e.call-place, calls-small, x),
-    omega (arith, e.notice-place, notices-small, y),
+    omega (arith, e.call_place, calls_small, x),
+    omega (arith, e.notice_place, notices_small, y),
   )

@@ -24,17 +24,17 @@ bound_from js os = bound_after js (commands_of os)
 -- a pen stands where js is bound, unless it has run out of numbers; a is the record array at the start, whose unused places stay
 pub record Stands (a : List Record) (js : List Import) (p : Pen) : Type 0 where
   pub store : p.full ≡ false → Holds a js p.store
-  pub calls-small : p.calls ≤ 2 ^ 63
-  pub notices-small : p.notices ≤ 2 ^ 63
+  pub calls_small : p.calls ≤ 2 ^ 63
+  pub notices_small : p.notices ≤ 2 ^ 63
 
 -- the output os is written: the call target was cs and is cs', the notice target was ns and is ns', the pen was p and is p'. A pen that has run out of
 -- numbers goes on counting
 pub record Emitted (a : List Record) (js : List Import) (os : List Output) (cs cs' ns ns' : List ℕ) (p p' : Pen) : Type 0 where
   pub fullness : p'.full ≡ (p.full || nat_lt 8 (length (bound_from js os)))
   pub stands : Stands a (bound_from js os) p'
-  pub call-place : p'.calls ≡ cap (p.calls + length (calls_from js os))
+  pub call_place : p'.calls ≡ cap (p.calls + length (calls_from js os))
   pub calls : p'.full ≡ false → cs' ≡ sets cs p.calls (calls_from js os)
-  pub notice-place : p'.notices ≡ cap (p.notices + length (notices_from os))
+  pub notice_place : p'.notices ≡ cap (p.notices + length (notices_from os))
   pub notices : ns' ≡ sets ns p.notices (notices_from os)
 
 -- ---- what the functions promise, of any pen that stands

@@ -1,7 +1,7 @@
--- The groups of the record tape (`withGroup`, `groupsFrom` of definitions, Records; `knownSources` of specs, Grouping).
---     group-first, group-again, group-new, group-two      a source with no group, one group and two, by the code's tests
---     groups-next, groups-end, known_next                 a walk through the first n records of an array, at element i
---     bindable-known                                      records that settings can bind have source 0 or 1
+-- The groups of the record tape (`with_group`, `groups_from` of definitions, Records; `known_sources` of specs, Grouping).
+--     group_first, group_again, group_new, group_two      a source with no group, one group and two, by the code's tests
+--     groups_next, groups_end, known_next                 a walk through the first n records of an array, at element i
+--     bindable_known                                      records that settings can bind have source 0 or 1
 -- Assumes nothing.
 use mathlib.Core.Path.{◌≡◌, refl, sym, ap}
 use mathlib.Core.Bool.{Bool, true, false, cond, ◌&&◌, and-eq-true_iff, false≢true}
@@ -27,25 +27,25 @@ use Rattle.records.proofs.Numbers.{nowhere}
 
 -- ---- one source more
 
-pub group-first : (front : Bool) (s : ℕ) → with_group front s [] ≡ s ∷ []
+pub group_first : (front : Bool) (s : ℕ) → with_group front s [] ≡ s ∷ []
 unfolding with_group without is_among
-group-first true s = refl
-group-first false s = refl
+group_first true s = refl
+group_first false s = refl
 
-pub group-again : (front : Bool) (s t : ℕ) → t ≡ s → with_group front s (t ∷ []) ≡ t ∷ []
+pub group_again : (front : Bool) (s t : ℕ) → t ≡ s → with_group front s (t ∷ []) ≡ t ∷ []
 unfolding with_group without is_among
-group-again true s t e = rw (eq-eqb s t (sym e)) (ap (λ (n : ℕ). n ∷ []) (sym e))
-group-again false s t e = rw (eq-eqb s t (sym e))
+group_again true s t e = rw (eq-eqb s t (sym e)) (ap (λ (n : ℕ). n ∷ []) (sym e))
+group_again false s t e = rw (eq-eqb s t (sym e))
 
-pub group-new : (front : Bool) (s t : ℕ) → (t ≡ s → ⊥) → with_group front s (t ∷ []) ≡ cond front (s ∷ t ∷ []) (t ∷ s ∷ [])
+pub group_new : (front : Bool) (s t : ℕ) → (t ≡ s → ⊥) → with_group front s (t ∷ []) ≡ cond front (s ∷ t ∷ []) (t ∷ s ∷ [])
 unfolding with_group without is_among
-group-new true s t h = rw (ne_eqb s t (λ e. h (sym e)))
-group-new false s t h = rw (ne_eqb s t (λ e. h (sym e)))
+group_new true s t h = rw (ne_eqb s t (λ e. h (sym e)))
+group_new false s t h = rw (ne_eqb s t (λ e. h (sym e)))
 
 -- where both sources have groups, a group is first only if it is put there
-pub group-two : (front : Bool) (s t u : ℕ) → t + u ≡ 1 → s < 2 → with_group front s (t ∷ u ∷ []) ≡ cond (front && eqb u s) (u ∷ t ∷ []) (t ∷ u ∷ [])
+pub group_two : (front : Bool) (s t u : ℕ) → t + u ≡ 1 → s < 2 → with_group front s (t ∷ u ∷ []) ≡ cond (front && eqb u s) (u ∷ t ∷ []) (t ∷ u ∷ [])
 unfolding with_group without is_among
-group-two front s t u h k = go front (eqb u s) refl
+group_two front s t u h k = go front (eqb u s) refl
   where
     go : (f b : Bool) → eqb u s ≡ b → with_group f s (t ∷ u ∷ []) ≡ cond (f && b) (u ∷ t ∷ []) (t ∷ u ∷ [])
     go true true e =
@@ -65,14 +65,14 @@ group-two front s t u h k = go front (eqb u s) refl
 
 -- ---- a walk through the records
 
-pub groups-next : (g : List ℕ) (a : List Record) (i n : ℕ) → i < n → n ≤ length a
+pub groups_next : (g : List ℕ) (a : List Record) (i n : ℕ) → i < n → n ≤ length a
     → groups_from g (slice i n a) ≡ groups_from (grouped_by g (get_or a i nowhere).import) (slice (i + 1) n a)
 unfolding groups_from
-groups-next g a i n h k = rw (slice-cons i n a nowhere h k, add-one)
+groups_next g a i n h k = rw (slice-cons i n a nowhere h k, add-one)
 
-pub groups-end : (g : List ℕ) (n : ℕ) (a : List Record) → groups_from g (slice n n a) ≡ g
+pub groups_end : (g : List ℕ) (n : ℕ) (a : List Record) → groups_from g (slice n n a) ≡ g
 unfolding groups_from
-groups-end g n a = rw (slice_empty n a)
+groups_end g n a = rw (slice_empty n a)
 
 pub known_next : (a : List Record) (i n : ℕ) → i < n → n ≤ length a → known_sources (slice i n a) ≡ true
     → (known_source (get_or a i nowhere).import ≡ true) × (known_sources (slice (i + 1) n a) ≡ true)
@@ -81,31 +81,31 @@ known_next a i n h k e = rw add-one ((and-eq-true_iff (known_source (get_or a i 
 
 -- ---- sources
 
-import-known : (m : Mode) (development : Bool) (s n : ℕ) → can_import m development s n ≡ true → ltb s 2 ≡ true
+import_known : (m : Mode) (development : Bool) (s n : ℕ) → can_import m development s n ≡ true → ltb s 2 ≡ true
 unfolding can_import
-import-known Module development s n e = go (eqb n create_element) (eqb-true s _ ((and-eq-true_iff (can_name development n) (eqb s (source_of n))).0 e).1)
+import_known Module development s n e = go (eqb n create_element) (eqb-true s _ ((and-eq-true_iff (can_name development n) (eqb s (source_of n))).0 e).1)
   where
     go : (b : Bool) → s ≡ cond b 0 1 → ltb s 2 ≡ true
     go true p = lt-ltb s 2 (omega arith)
     go false p = lt-ltb s 2 (omega arith)
-import-known Script development s n e = absurd (false≢true e)
-import-known Classic development s n e = absurd (false≢true e)
+import_known Script development s n e = absurd (false≢true e)
+import_known Classic development s n e = absurd (false≢true e)
 
-require-known : (m : Mode) (s : ℕ) → can_require m s ≡ true → ltb s 2 ≡ true
+require_known : (m : Mode) (s : ℕ) → can_require m s ≡ true → ltb s 2 ≡ true
 unfolding can_require
-require-known Module s e = absurd (false≢true e)
-require-known Script s e = e
-require-known Classic s e = absurd (false≢true e)
+require_known Module s e = absurd (false≢true e)
+require_known Script s e = e
+require_known Classic s e = absurd (false≢true e)
 
-bind-known : (s : Settings) (i : Import) → can_bind s i ≡ true → known_source i ≡ true
+bind_known : (s : Settings) (i : Import) → can_bind s i ≡ true → known_source i ≡ true
 unfolding can_bind known_source
-bind-known s (Named t n) e = import-known s.mode s.options.flags.development t n e
-bind-known s (Default t) e = require-known s.mode t e
-bind-known s FileName e = refl
+bind_known s (Named t n) e = import_known s.mode s.options.flags.development t n e
+bind_known s (Default t) e = require_known s.mode t e
+bind_known s FileName e = refl
 
-pub bindable-known : (s : Settings) (rs : List Record) → all_bindable s (imports rs) ≡ true → known_sources rs ≡ true
+pub bindable_known : (s : Settings) (rs : List Record) → all_bindable s (imports rs) ≡ true → known_sources rs ≡ true
 unfolding all_bindable known_sources
-bindable-known s [] h = refl
-bindable-known s (r ∷ rs) h =
+bindable_known s [] h = refl
+bindable_known s (r ∷ rs) h =
     let e = (and-eq-true_iff (can_bind s r.import) (all_bindable s (imports rs))).0 h in
-    rw (bind-known s r.import e.0) (bindable-known s rs e.1)
+    rw (bind_known s r.import e.0) (bindable_known s rs e.1)

@@ -1,6 +1,6 @@
--- The record tape in parts (`partTape` of specs, Tape; `recordTape` of definitions, Records).
---     part-next                   a walk through the records of an array, at element i
---     part-group, part-file       the parts are those of the definition
+-- The record tape in parts (`part_tape` of specs, Tape; `record_tape` of definitions, Records).
+--     part_next                   a walk through the records of an array, at element i
+--     part_group, part_file       the parts are those of the definition
 --     part_length                 how long a part is at most
 -- Assumes nothing.
 use mathlib.Core.Path.{◌≡◌, refl, ap}
@@ -23,25 +23,25 @@ use Rattle.records.proofs.Numbers.{nowhere}
 
 -- ---- a walk through the records
 
-part-append : (p : Part) (rs qs : List Record) → part_tape p (rs ++ qs) ≡ part_tape p rs ++ part_tape p qs
+part_append : (p : Part) (rs qs : List Record) → part_tape p (rs ++ qs) ≡ part_tape p rs ++ part_tape p qs
 unfolding part_tape
-part-append p [] qs = refl
-part-append p (r ∷ rs) qs = rw (part-append p rs qs, append_assoc)
+part_append p [] qs = refl
+part_append p (r ∷ rs) qs = rw (part_append p rs qs, append_assoc)
 
-pub part-next : (p : Part) (a : List Record) (i : ℕ) → i < length a
+pub part_next : (p : Part) (a : List Record) (i : ℕ) → i < length a
     → part_tape p (take i a) ++ entry_of p (get_or a i nowhere).import (get_or a i nowhere).binding ≡ part_tape p (take (i + 1) a)
 unfolding part_tape
-part-next p a i h = rw (add-one, take-suc a i nowhere h, part-append p (take i a) (get_or a i nowhere ∷ []), append-nil)
+part_next p a i h = rw (add-one, take-suc a i nowhere h, part_append p (take i a) (get_or a i nowhere ∷ []), append-nil)
 
-pub part-group : (s : ℕ) (rs : List Record) → part_tape (Group s) rs ≡ entries_in s rs
+pub part_group : (s : ℕ) (rs : List Record) → part_tape (Group s) rs ≡ entries_in s rs
 unfolding part_tape entry_of entries_in
-part-group s [] = refl
-part-group s (r ∷ rs) = ap (λ (l : List ℕ). entry_in s r.import r.binding ++ l) (part-group s rs)
+part_group s [] = refl
+part_group s (r ∷ rs) = ap (λ (l : List ℕ). entry_in s r.import r.binding ++ l) (part_group s rs)
 
-pub part-file : (place : ℕ) (rs : List Record) → part_tape (FileName place) rs ≡ file_name_tape place rs
+pub part_file : (place : ℕ) (rs : List Record) → part_tape (FileName place) rs ≡ file_name_tape place rs
 unfolding part_tape entry_of file_name_tape
-part-file place [] = refl
-part-file place (r ∷ rs) = ap (λ (l : List ℕ). file_name_entry place r.import r.binding ++ l) (part-file place rs)
+part_file place [] = refl
+part_file place (r ∷ rs) = ap (λ (l : List ℕ). file_name_entry place r.import r.binding ++ l) (part_file place rs)
 
 -- ---- lengths
 

@@ -1,6 +1,6 @@
--- What writing a record tape answers and leaves in the target (`judgeTape` of definitions, Entries), by the code's tests.
+-- What writing a record tape answers and leaves in the target (`judge_tape` of definitions, Entries), by the code's tests.
 --     Comes                       an answer and a target that a judgement comes to
---     tape-size, tape-laid        what the two runs over the records give: the tape's length, and the target with the tape
+--     tape_size, tape_laid        what the two runs over the records give: the tape's length, and the target with the tape
 --     crowded, roomy              refusal 10, and a target with room
 -- Assumes nothing.
 use mathlib.Core.Path.{◌≡◌, refl, ap, ◌∙◌}
@@ -11,7 +11,7 @@ use lib.ListN.{length, length-append}
 use borrow.Author.Tests.{lt-ltb, le-ltb}
 use Rattle.tape.specs.declared.refusal.Refusal.TheVariants.{Space}
 use Rattle.tape.specs.Targets.{Wrote}
-use Rattle.tape.proofs.Targets.{sets-room}
+use Rattle.tape.proofs.Targets.{sets_room}
 use Rattle.definitions.specs.declared.options.Mode.{Mode}
 use Rattle.definitions.specs.declared.records.Record.{Record}
 use Rattle.definitions.specs.declared.state.Written.{Written}
@@ -24,46 +24,46 @@ use Rattle.records.specs.declared.groups.Groups.TheVariants.{Empty, One, Two}
 use Rattle.records.specs.declared.record_tape.Part.TheVariants.{Group, FileName}
 use Rattle.records.specs.Grouping.{sources_of}
 use Rattle.records.specs.Tape.{tape_of}
-use Rattle.records.proofs.Tape.{part-group, part-file, part_length}
+use Rattle.records.proofs.Tape.{part_group, part_file, part_length}
 
 abbrev pub Comes : Judged (List ℕ) → Written → List ℕ → List ℕ → Type 0
 Comes j w before after = (w ≡ records_answer j) × (after ≡ records_target before j)
 
 -- ---- the tape's length
 
-group-length : (s : ℕ) (rs : List Record) → length (entries_in s rs) ≤ 3 * length rs
-group-length s rs = rw (← part-group s rs) (part_length (Group s) rs)
+group_length : (s : ℕ) (rs : List Record) → length (entries_in s rs) ≤ 3 * length rs
+group_length s rs = rw (← part_group s rs) (part_length (Group s) rs)
 
-groups-length : (g : Groups) (rs : List Record) → length (group_tape rs (sources_of g)) ≤ 6 * length rs + 4
+groups_length : (g : Groups) (rs : List Record) → length (group_tape rs (sources_of g)) ≤ 6 * length rs + 4
 unfolding sources_of group_tape
-groups-length Empty rs = omega arith
-groups-length (One s) rs = omega (arith, length-append (entries_in s rs) [], group-length s rs)
-groups-length (Two s t) rs =
-    omega (arith, length-append (entries_in s rs) (0xb0 ∷ t ∷ entries_in t rs ++ []), length-append (entries_in t rs) [], group-length s rs, group-length t rs)
+groups_length Empty rs = omega arith
+groups_length (One s) rs = omega (arith, length-append (entries_in s rs) [], group_length s rs)
+groups_length (Two s t) rs =
+    omega (arith, length-append (entries_in s rs) (0xb0 ∷ t ∷ entries_in t rs ++ []), length-append (entries_in t rs) [], group_length s rs, group_length t rs)
 
-tape-length : (m : Mode) (g : Groups) (rs : List Record) → length (tape_of m g rs) ≤ 9 * length rs + 4
+tape_length : (m : Mode) (g : Groups) (rs : List Record) → length (tape_of m g rs) ≤ 9 * length rs + 4
 unfolding tape_of
-tape-length m g rs =
+tape_length m g rs =
     omega (
       arith,
       length-append (group_tape rs (sources_of g)) (file_name_tape (place_in m) rs),
-      groups-length g rs,
-      rw (part-file (place_in m) rs) at (part_length (FileName (place_in m)) rs),
+      groups_length g rs,
+      rw (part_file (place_in m) rs) at (part_length (FileName (place_in m)) rs),
     )
 
 -- ---- the two runs
 
 module _ (m : Mode) (g : Groups) (rs : List Record) (e : sources_of g ≡ groups_from [] rs) where
-  tape-is : tape_of m g rs ≡ record_tape m rs
+  tape_is : tape_of m g rs ≡ record_tape m rs
   unfolding tape_of record_tape
-  tape-is = rw e
+  tape_is = rw e
 
-  pub tape-size : {o o' : List ℕ} {r : ℕ} → length rs ≤ 8 → Wrote o o' 0 r (tape_of m g rs) → r ≡ length (record_tape m rs)
-  tape-size h w = omega (arith, w.next, tape-length m g rs) ∙ ap length tape-is
+  pub tape_size : {o o' : List ℕ} {r : ℕ} → length rs ≤ 8 → Wrote o o' 0 r (tape_of m g rs) → r ≡ length (record_tape m rs)
+  tape_size h w = omega (arith, w.next, tape_length m g rs) ∙ ap length tape_is
 
-  pub tape-laid : {o o' : List ℕ} {r : ℕ} → length (record_tape m rs) ≤ length o → Wrote o o' 0 r (tape_of m g rs) → o' ≡ laid 0 (record_tape m rs) o
+  pub tape_laid : {o o' : List ℕ} {r : ℕ} → length (record_tape m rs) ≤ length o → Wrote o o' 0 r (tape_of m g rs) → o' ≡ laid 0 (record_tape m rs) o
   unfolding laid
-  tape-laid {o} h w = w.holds ∙ rw tape-is (sets-room o 0 (record_tape m rs) (omega arith))
+  tape_laid {o} h w = w.holds ∙ rw tape_is (sets_room o 0 (record_tape m rs) (omega arith))
 
 -- ---- by the code's tests
 

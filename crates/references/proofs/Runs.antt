@@ -1,6 +1,6 @@
 -- Runs of bytes of one kind.
---     run_more, run-stop, run_out     a loop's steps
---     run-within, run-bare            a run ends within the list, and has no ampersand
+--     run_more, run_stop, run_out     a loop's steps
+--     run_within, run_bare            a run ends within the list, and has no ampersand
 --     closed_none                     nothing is closed where no byte of the kind stands
 -- Assumes nothing.
 use mathlib.Core.Path.{◌≡◌, refl, sym, ap, ◌∙◌}
@@ -13,31 +13,31 @@ use native.Mathlib.Omega.{arith}
 use lib.ListN.{length, get_or, drop, drop_of_length-le}
 use lib.Dec.{eqb}
 use borrow.Author.Tests.{eqb-true}
-use Rattle.text.proofs.Lists.{drop-one}
+use Rattle.text.proofs.Lists.{drop_one}
 use Rattle.references.specs.declared.Kind.{Kind}
 use Rattle.references.specs.declared.Kind.TheVariants.{Name, Decimal, Hexadecimal}
 use Rattle.references.specs.References.{is_of, run, closed, has_reference}
-use Rattle.references.proofs.Bare.{never, has-bare}
+use Rattle.references.proofs.Bare.{never, has_bare}
 
 module _ (k : Kind) where
   -- ---- from place i of a list
   pub run_more : (s : List ℕ) (i : ℕ) → i < length s → is_of k (get_or s i 0) ≡ true → i + run k (drop i s) ≡ (i + 1) + run k (drop (i + 1) s)
   unfolding run
-  run_more s i h e = ap (λ (l : List ℕ). i + run k l) (drop-one s i h) ∙ rw (e, add-one, add-suc, suc-add)
+  run_more s i h e = ap (λ (l : List ℕ). i + run k l) (drop_one s i h) ∙ rw (e, add-one, add-suc, suc-add)
 
-  pub run-stop : (s : List ℕ) (i : ℕ) → i < length s → is_of k (get_or s i 0) ≡ false → i + run k (drop i s) ≡ i
+  pub run_stop : (s : List ℕ) (i : ℕ) → i < length s → is_of k (get_or s i 0) ≡ false → i + run k (drop i s) ≡ i
   unfolding run
-  run-stop s i h e = ap (λ (l : List ℕ). i + run k l) (drop-one s i h) ∙ rw (e, add-zero)
+  run_stop s i h e = ap (λ (l : List ℕ). i + run k l) (drop_one s i h) ∙ rw (e, add-zero)
 
   pub run_out : (s : List ℕ) (i : ℕ) → length s ≤ i → i + run k (drop i s) ≡ i
   unfolding run
   run_out s i h = rw (drop_of_length-le s h, add-zero)
 
   -- ---- what a run is
-  pub run-within : (l : List ℕ) → run k l ≤ length l
+  pub run_within : (l : List ℕ) → run k l ≤ length l
   unfolding run
-  run-within [] = omega arith
-  run-within (b ∷ l) = go (is_of k b) (run-within l)
+  run_within [] = omega arith
+  run_within (b ∷ l) = go (is_of k b) (run_within l)
     where
       go : (t : Bool) → run k l ≤ length l → cond t (suc (run k l)) 0 ≤ length (b ∷ l)
       go true h = omega arith
@@ -52,21 +52,21 @@ module _ (k : Kind) where
       by_kind Decimal = refl
       by_kind Hexadecimal = refl
 
-  kind-bare : (b : ℕ) → is_of k b ≡ true → eqb b 0x26 ≡ false
-  kind-bare b e = go (eqb b 0x26) refl
+  kind_bare : (b : ℕ) → is_of k b ≡ true → eqb b 0x26 ≡ false
+  kind_bare b e = go (eqb b 0x26) refl
     where
       go : (t : Bool) → eqb b 0x26 ≡ t → t ≡ false
       go true h = absurd (never (sym no_sign ∙ (ap (is_of k) (sym (eqb-true b 0x26 h)) ∙ e)))
       go false h = refl
 
-  pub run-bare : (l : List ℕ) → has_reference l ≡ has_reference (drop (run k l) l)
+  pub run_bare : (l : List ℕ) → has_reference l ≡ has_reference (drop (run k l) l)
   unfolding run
-  run-bare [] = refl
-  run-bare (b ∷ l) = go (is_of k b) refl (run-bare l)
+  run_bare [] = refl
+  run_bare (b ∷ l) = go (is_of k b) refl (run_bare l)
     where
       go : (t : Bool) → is_of k b ≡ t → has_reference l ≡ has_reference (drop (run k l) l)
           → has_reference (b ∷ l) ≡ has_reference (drop (cond t (suc (run k l)) 0) (b ∷ l))
-      go true e ih = has-bare b l (kind-bare b e) ∙ ih
+      go true e ih = has_bare b l (kind_bare b e) ∙ ih
       go false e ih = refl
 
   pub closed_none : (b : ℕ) (l : List ℕ) → is_of k b ≡ false → closed k (b ∷ l) ≡ false

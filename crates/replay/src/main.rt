@@ -18,7 +18,6 @@ use openings::show_settings;
 use reading::{read_number, read_part};
 use settings::opening::open_job;
 use showing::{say, say_cut, say_line, say_number, say_refused};
-use std::alloc::AllocError;
 use std::io;
 use std::io::{Read, Result, Write};
 use store::module_imports::write_records;
@@ -211,12 +210,11 @@ fn replay_cases(
 }
 
 // Where a line can't be written, standard error is told, and nothing more is written.
-fn main(rt: HostRuntime) -> std::result::Result<(), AllocError> {
-    let alloc = rt.alloc();
-    let mut job = reading::tape(alloc)?;
-    let mut text = reading::tape(alloc)?;
-    let mut tape = reading::tape(alloc)?;
-    let mut calls = vec![in alloc; 0u8; 65536]?;
+fn main(rt: HostRuntime) {
+    let mut job = reading::tape();
+    let mut text = reading::tape();
+    let mut tape = reading::tape();
+    let mut calls = [0u8; 65536];
     let replayed = replay_cases(
         &mut rt.reader(),
         &mut io::writer(&rt),
@@ -228,5 +226,4 @@ fn main(rt: HostRuntime) -> std::result::Result<(), AllocError> {
     if replayed.is_err() {
         let _ = rt.eprintln(CANNOT_WRITE);
     }
-    Ok(())
 }

@@ -1,16 +1,15 @@
 // Numbers and tapes from a reader.
-ghost use Rattle.std.specs.Prelude.{◌≡◌, ◌≤◌, length, IfOk, vec_len};
+ghost use Rattle.std.specs.Prelude.{◌≡◌, ◌≤◌, length};
 
 use files::read_full;
-use std::alloc::{AllocError, Global};
 use std::io::Read;
 use tape::numbers::read_u32;
 
 // Room for a tape or a text that is too long by far.
-pub fn tape(alloc: Global) -> Result<Vec<u8>, AllocError>
-    ensures { IfOk result (λ v. vec_len v ≡ 131072) }
+pub fn tape() -> [u8; 131072]
+    ensures { 131072 ≡ length result }
 {
-    vec![in alloc; 0; 131072]
+    [0; 131072]
 }
 
 // A number of four bytes; 0 where the input ends.

@@ -1,8 +1,8 @@
 -- Writing what fits, behind the tests of text and state.
---     state-short                      a text that passes them is not too long
---     state-refused, state-accepted    what a judgement comes to behind them
---     crowded-by, roomy-by             refusal 10, and a target with room, where the size was measured
---     source-size                      the text of a source is measured right
+--     state_short                      a text that passes them is not too long
+--     state_refused, state_accepted    what a judgement comes to behind them
+--     crowded_by, roomy_by             refusal 10, and a target with room, where the size was measured
+--     source_size                      the text of a source is measured right
 -- Assumes nothing.
 use mathlib.Core.Path.{◌≡◌, ◌∙◌}
 use mathlib.Core.Bool.{Bool, true, false, cond}
@@ -15,7 +15,7 @@ use Rattle.text.specs.declared.spans.Span.{Span}
 use Rattle.text.specs.Spans.{part_of}
 use Rattle.tape.specs.declared.refusal.Refusal.TheVariants as refusal
 use Rattle.tape.specs.Targets.{Wrote}
-use Rattle.tape.proofs.Targets.{sets-room}
+use Rattle.tape.proofs.Targets.{sets_room}
 use Rattle.definitions.specs.declared.options.Optional.{Optional}
 use Rattle.definitions.specs.declared.options.Optional.TheVariants.{Absent, Present}
 use Rattle.definitions.specs.declared.options.Options.{Options}
@@ -27,15 +27,15 @@ use Rattle.resolved.specs.Resolved.{runtime_path, source_text}
 
 -- ---- the room
 
-pub crowded-by : (t o : List ℕ) {size : ℕ} → size ≡ length t → length o < size → Comes (judge_tape t (length o)) (written.Refused (refusal.Space size)) o o
-crowded-by t o e h = rw e (crowded t o (omega (arith, h, e)))
+pub crowded_by : (t o : List ℕ) {size : ℕ} → size ≡ length t → length o < size → Comes (judge_tape t (length o)) (written.Refused (refusal.Space size)) o o
+crowded_by t o e h = rw e (crowded t o (omega (arith, h, e)))
 
-pub roomy-by : (t o : List ℕ) {o' : List ℕ} {size r : ℕ} → size ≡ length t → size ≤ length o → Wrote o o' 0 r t
+pub roomy_by : (t o : List ℕ) {o' : List ℕ} {size r : ℕ} → size ≡ length t → size ≤ length o → Wrote o o' 0 r t
     → Comes (judge_tape t (length o)) (written.Accepted size) o o'
 unfolding laid
-roomy-by t o e h w =
+roomy_by t o e h w =
     let l : length t ≤ length o = omega (arith, h, e) in
-    rw (e, w.holds ∙ sets-room o 0 t (omega (arith, l))) (roomy t o l)
+    rw (e, w.holds ∙ sets_room o 0 t (omega (arith, l))) (roomy t o l)
 
 -- ---- the text of a source
 
@@ -43,31 +43,31 @@ part_length : (text : List ℕ) (s : Span) → length (part_of text s) ≤ lengt
 unfolding part_of
 part_length text s = omega (arith, length-take s.len (drop s.start text), length-drop s.start text)
 
-or-react-length : (l : List ℕ) → length (or_react l) ≤ length l + 5
+or_react_length : (l : List ℕ) → length (or_react l) ≤ length l + 5
 unfolding or_react
-or-react-length [] = omega arith
-or-react-length (b ∷ l) = omega arith
+or_react_length [] = omega arith
+or_react_length (b ∷ l) = omega arith
 
-import-length : (text : List ℕ) (p : Optional) → length (import_source text p) ≤ length text + 5
+import_length : (text : List ℕ) (p : Optional) → length (import_source text p) ≤ length text + 5
 unfolding import_source
-import-length text Absent = omega arith
-import-length text (Present s) = omega (arith, or-react-length (part_of text s), part_length text s)
+import_length text Absent = omega arith
+import_length text (Present s) = omega (arith, or_react_length (part_of text s), part_length text s)
 
-path-length : (d : Bool) → length (runtime_path d) ≤ 16
-path-length true = omega arith
-path-length false = omega arith
+path_length : (d : Bool) → length (runtime_path d) ≤ 16
+path_length true = omega arith
+path_length false = omega arith
 
-source-length : (text : List ℕ) (o : Options) (n : ℕ) → length (source_text text o n) ≤ length text + 21
+source_length : (text : List ℕ) (o : Options) (n : ℕ) → length (source_text text o n) ≤ length text + 21
 unfolding source_text runtime_source
-source-length text o n = go (eqb n 0)
+source_length text o n = go (eqb n 0)
   where
     i : List ℕ
     i = import_source text o.import_source
 
     go : (b : Bool) → length (cond b i (i ++ runtime_path o.flags.development)) ≤ length text + 21
-    go true = omega (arith, import-length text o.import_source)
-    go false = omega (arith, import-length text o.import_source, path-length o.flags.development, length-append i (runtime_path o.flags.development))
+    go true = omega (arith, import_length text o.import_source)
+    go false = omega (arith, import_length text o.import_source, path_length o.flags.development, length-append i (runtime_path o.flags.development))
 
-pub source-size : (text : List ℕ) (o : Options) (n : ℕ) {spare after : List ℕ} {r : ℕ} → length text ≤ 65535 → Wrote spare after 0 r (source_text text o n)
+pub source_size : (text : List ℕ) (o : Options) (n : ℕ) {spare after : List ℕ} {r : ℕ} → length text ≤ 65535 → Wrote spare after 0 r (source_text text o n)
     → r ≡ length (source_text text o n)
-source-size text o n h w = omega (arith, w.next, source-length text o n)
+source_size text o n h w = omega (arith, w.next, source_length text o n)

@@ -1,4 +1,4 @@
--- What a host reads of a job's settings as they stand after its comments: their bytes (`settingsBytes` of packing), and the sources of imports as text. Judged as
+-- What a host reads of a job's settings as they stand after its comments: their bytes (`settings_bytes` of packing), and the sources of imports as text. Judged as
 -- writing records is: 1, 2, 12, 10.
 use Rattle.std.specs.Prelude.{ℕ, Bool, cond, List, eqb}
 use Rattle.text.specs.Bytes.{ascii}

@@ -100,17 +100,17 @@ with_operands P n t {cut} {whole} p q = go (ltb (length t) n)
 
 -- ---- the readers
 
-pub member-coded : (t : List ℕ) {c : MemberCommand} → member_command t ≡ c → Coded member_size member_code (get_or t 0 0) c
+pub member_coded : (t : List ℕ) {c : MemberCommand} → member_command t ≡ c → Coded member_size member_code (get_or t 0 0) c
 unfolding member_command
-member-coded [] e = subst (Coded member_size member_code 0) e no
-member-coded (b ∷ t) e =
+member_coded [] e = subst (Coded member_size member_code 0) e no
+member_coded (b ∷ t) e =
     let P : MemberCommand → Type 0 = Coded member_size member_code b in
     subst P e (test P b 0x25 (λ k. with_operands P 4 t no (λ h. k)) no)
 
-pub name-coded : (t : List ℕ) {c : NameCommand} → name_command t ≡ c → Coded name_size name_code (get_or t 0 0) c
+pub name_coded : (t : List ℕ) {c : NameCommand} → name_command t ≡ c → Coded name_size name_code (get_or t 0 0) c
 unfolding name_command
-name-coded [] e = subst (Coded name_size name_code 0) e no
-name-coded (b ∷ t) e =
+name_coded [] e = subst (Coded name_size name_code 0) e no
+name_coded (b ∷ t) e =
     let P : NameCommand → Type 0 = Coded name_size name_code b in
     subst P e
     (test P b 0x20 (λ k. with_operands P 4 t no (λ h. k))
@@ -118,20 +118,20 @@ name-coded (b ∷ t) e =
     (test P b 0x22 (λ k h. k)
     (test P b 0x23 (λ k. with_operands P 8 t no (λ h. k)) no))))
 
-pub property-coded : (t : List ℕ) {c : PropertyCommand} → property_command t ≡ c → Coded property_size property_code (get_or t 0 0) c
+pub property_coded : (t : List ℕ) {c : PropertyCommand} → property_command t ≡ c → Coded property_size property_code (get_or t 0 0) c
 unfolding property_command
-property-coded [] e = subst (Coded property_size property_code 0) e no
-property-coded (b ∷ t) e =
+property_coded [] e = subst (Coded property_size property_code 0) e no
+property_coded (b ∷ t) e =
     let P : PropertyCommand → Type 0 = Coded property_size property_code b in
     subst P e
     (test P b 0x34 (λ k. with_operands P 2 t no (λ h. k))
     (test P b 0x36 (λ k. with_operands P 6 t no (λ h. k))
     (test P b 0x35 (λ k h. k) no)))
 
-pub attribute-coded : (t : List ℕ) {c : AttributeCommand} → attribute_command t ≡ c → Coded attribute_size attribute_code (get_or t 0 0) c
+pub attribute_coded : (t : List ℕ) {c : AttributeCommand} → attribute_command t ≡ c → Coded attribute_size attribute_code (get_or t 0 0) c
 unfolding attribute_command
-attribute-coded [] e = subst (Coded attribute_size attribute_code 0) e no
-attribute-coded (b ∷ t) e =
+attribute_coded [] e = subst (Coded attribute_size attribute_code 0) e no
+attribute_coded (b ∷ t) e =
     let P : AttributeCommand → Type 0 = Coded attribute_size attribute_code b in
     subst P e
     (test P b 0x30 (λ k. with_operands P 4 t no (λ h. k))
@@ -140,10 +140,10 @@ attribute-coded (b ∷ t) e =
     (test P b 0x33 (λ k. with_operands P 2 t no (λ h. k))
     (test P b 0x1e (λ k h. k) no)))))
 
-pub value-coded : (t : List ℕ) {c : ValueCommand} → value_command t ≡ c → Coded value_size value_code (get_or t 0 0) c
+pub value_coded : (t : List ℕ) {c : ValueCommand} → value_command t ≡ c → Coded value_size value_code (get_or t 0 0) c
 unfolding value_command
-value-coded [] e = subst (Coded value_size value_code 0) e no
-value-coded (b ∷ t) e =
+value_coded [] e = subst (Coded value_size value_code 0) e no
+value_coded (b ∷ t) e =
     let P : ValueCommand → Type 0 = Coded value_size value_code b in
     subst P e
     (test P b 0x40 (λ k h. k)
@@ -153,10 +153,10 @@ value-coded (b ∷ t) e =
     (test P b 0x10 (λ k. with_operands P 8 t no (λ h. k))
     (test P b 0x11 (λ k. with_operands P 8 t no (λ h. k)) no))))))
 
-pub child-coded : (t : List ℕ) {c : ChildCommand} → child_command t ≡ c → Coded child_size child_code (get_or t 0 0) c
+pub child_coded : (t : List ℕ) {c : ChildCommand} → child_command t ≡ c → Coded child_size child_code (get_or t 0 0) c
 unfolding child_command
-child-coded [] e = subst (Coded child_size child_code 0) e no
-child-coded (b ∷ t) e =
+child_coded [] e = subst (Coded child_size child_code 0) e no
+child_coded (b ∷ t) e =
     let P : ChildCommand → Type 0 = Coded child_size child_code b in
     subst P e
     (test P b 0x50 (λ k. with_operands P 4 t no (λ h. k))

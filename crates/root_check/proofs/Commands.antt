@@ -22,9 +22,9 @@ use Rattle.root_check.specs.declared.check.Scan.{Scan}
 use Rattle.root_check.specs.declared.check.Scan.TheVariants as scan
 use Rattle.root_check.specs.Checking.{report, taken, shifted, sequel, reach, Within, Reports, Opens, Follows}
 use Rattle.root_check.specs.InOrder.{Placed, InOrder}
-use Rattle.root_check.proofs.Scans.{report-from, report-map, report-then, named-then, named-done, lettered-done, opened-then}
-use Rattle.root_check.proofs.Readings.{Reads, less, reads-within, opened-reads, element-reads, fragment-reads}
-use Rattle.root_check.proofs.Behind.{part, part-reach, reports-part}
+use Rattle.root_check.proofs.Scans.{report_from, report_map, report_then, named_then, named_done, lettered_done, opened_then}
+use Rattle.root_check.proofs.Readings.{Reads, less, reads_within, opened_reads, element_reads, fragment_reads}
+use Rattle.root_check.proofs.Behind.{part, part_reach, reports_part}
 
 -- ---- a name
 
@@ -32,32 +32,32 @@ module _ (text t : List ℕ) where
   abbrev pub Names : Scan → Type 0
   Names r = Reports (λ f l. name_at f text l) t r
 
-  pub name-plain : (s : Span) {r : Scan} → name_command t ≡ names.Plain s → r ≡ report (named (bounds_of text s) (taken 5)) → Names r
+  pub name_plain : (s : Span) {r : Scan} → name_command t ≡ names.Plain s → r ≡ report (named (bounds_of text s) (taken 5)) → Names r
   unfolding name_at name_by
-  name-plain s e h = record { tells = λ f i. rw (e, h) (named-done (plain s) 5 (bounds_of text s)) }
+  name_plain s e h = record { tells = λ f i. rw (e, h) (named_done (plain s) 5 (bounds_of text s)) }
 
-  pub name-namespaced : (s n : Span) {r : Scan} → name_command t ≡ names.Namespaced s n
+  pub name_namespaced : (s n : Span) {r : Scan} → name_command t ≡ names.Namespaced s n
       → r ≡ report (named (worse (bounds_of text s) (bounds_of text n)) (taken 9)) → Names r
   unfolding name_at name_by
-  name-namespaced s n e h = record { tells = λ f i. rw (e, h) (named-done (namespaced s n) 9 (worse (bounds_of text s) (bounds_of text n))) }
+  name_namespaced s n e h = record { tells = λ f i. rw (e, h) (named_done (namespaced s n) 9 (worse (bounds_of text s) (bounds_of text n))) }
 
-  pub name-identifier : (s : Span) {q r : Scan} → name_command t ≡ names.Identifier s → q ≡ report (named (bounds_of text s) (taken 5))
+  pub name_identifier : (s : Span) {q r : Scan} → name_command t ≡ names.Identifier s → q ≡ report (named (bounds_of text s) (taken 5))
       → Follows (λ f l. members_at f text l) t q r → Names r
   unfolding name_at name_by
-  name-identifier s e h F =
-      record { tells = λ f i. rw (e, ← F.tells f (omega arith), h) (named-then 5 _ _ (report-map (identifier s) _ ∙ report-from 5 _) (bounds_of text s)) }
+  name_identifier s e h F =
+      record { tells = λ f i. rw (e, ← F.tells f (omega arith), h) (named_then 5 _ _ (report_map (identifier s) _ ∙ report_from 5 _) (bounds_of text s)) }
 
-  pub name-this : {r : Scan} → name_command t ≡ names.This → Follows (λ f l. members_at f text l) t (scan.Good 1) r → Names r
+  pub name_this : {r : Scan} → name_command t ≡ names.This → Follows (λ f l. members_at f text l) t (scan.Good 1) r → Names r
   unfolding name_at name_by sequel
-  name-this e F = record { tells = λ f i. rw e (report-map this _ ∙ report-from 1 _ ∙ F.tells f (omega arith)) }
+  name_this e F = record { tells = λ f i. rw e (report_map this _ ∙ report_from 1 _ ∙ F.tells f (omega arith)) }
 
-  pub name-wrong : name_command t ≡ names.Wrong → Names (scan.Bad fault.Grammar 0)
+  pub name_wrong : name_command t ≡ names.Wrong → Names (scan.Bad fault.Grammar 0)
   unfolding name_at name_by report
-  name-wrong e = record { tells = λ f i. rw e }
+  name_wrong e = record { tells = λ f i. rw e }
 
-  pub name-cut : name_command t ≡ names.Cut → Names (scan.Bad fault.Grammar (length t))
+  pub name_cut : name_command t ≡ names.Cut → Names (scan.Bad fault.Grammar (length t))
   unfolding name_at name_by report
-  name-cut e = record { tells = λ f i. rw e }
+  name_cut e = record { tells = λ f i. rw e }
 
 -- ---- a value
 
@@ -66,91 +66,91 @@ module _ (text t : List ℕ) (d : ℕ) where
   Valued r = Reports (λ f l. value_at f text d l) t r
 
   -- by its command, whatever the bound
-  value-told : {r : Scan} (c : ValueCommand) → value_command t ≡ c
+  value_told : {r : Scan} (c : ValueCommand) → value_command t ≡ c
       → ((f : ℕ) → length t ≤ f → report (value_by text d t c (λ p. element_at f text d p (drop 9 t)) (λ p. fragment_at f text d p (drop 9 t))) ≡ r)
       → Valued r
   unfolding value_at
-  value-told {r} c e k = record { tells = go }
+  value_told {r} c e k = record { tells = go }
     where
       go : (f : ℕ) → length t < f → report (value_at f text d t) ≡ r
       go zero h = absurd (omega arith)
       go (suc f) h = rw e (k f (omega arith))
 
-  pub value-absent : value_command t ≡ values.Absent → Valued (scan.Good 1)
+  pub value_absent : value_command t ≡ values.Absent → Valued (scan.Good 1)
   unfolding value_by report
-  value-absent e = value-told _ e (λ f h. refl)
+  value_absent e = value_told _ e (λ f h. refl)
 
-  pub value-text : (s : Span) {r : Scan} → value_command t ≡ values.Text s → r ≡ report (lettered text s (taken 5)) → Valued r
+  pub value_text : (s : Span) {r : Scan} → value_command t ≡ values.Text s → r ≡ report (lettered text s (taken 5)) → Valued r
   unfolding value_by
-  value-text s e h = value-told _ e (λ f i. lettered-done (string s) 5 text s ∙ sym h)
+  value_text s e h = value_told _ e (λ f i. lettered_done (string s) 5 text s ∙ sym h)
 
-  pub value-expression : (x : ℕ) → value_command t ≡ values.Expression x → Valued (scan.Good 3)
+  pub value_expression : (x : ℕ) → value_command t ≡ values.Expression x → Valued (scan.Good 3)
   unfolding value_by report
-  value-expression x e = value-told _ e (λ f h. refl)
+  value_expression x e = value_told _ e (λ f h. refl)
 
-  pub value-empty : value_command t ≡ values.Empty → Valued (scan.Good 1)
+  pub value_empty : value_command t ≡ values.Empty → Valued (scan.Good 1)
   unfolding value_by report
-  value-empty e = value-told _ e (λ f h. refl)
+  value_empty e = value_told _ e (λ f h. refl)
 
-  pub value-element : (p : Place) {r : Scan} → value_command t ≡ values.Element p
+  pub value_element : (p : Place) {r : Scan} → value_command t ≡ values.Element p
       → Opens (λ f l. opened d p (element_at f text d p (drop 9 l))) t r → Valued r
   unfolding value_by
-  value-element p e O = value-told _ e (λ f h. report-map node_value _ ∙ O.tells f h)
+  value_element p e O = value_told _ e (λ f h. report_map node_value _ ∙ O.tells f h)
 
-  pub value-fragment : (p : Place) {r : Scan} → value_command t ≡ values.Fragment p
+  pub value_fragment : (p : Place) {r : Scan} → value_command t ≡ values.Fragment p
       → Opens (λ f l. opened d p (fragment_at f text d p (drop 9 l))) t r → Valued r
   unfolding value_by
-  value-fragment p e O = value-told _ e (λ f h. report-map node_value _ ∙ O.tells f h)
+  value_fragment p e O = value_told _ e (λ f h. report_map node_value _ ∙ O.tells f h)
 
-  pub value-wrong : value_command t ≡ values.Wrong → Valued (scan.Bad fault.Grammar 0)
+  pub value_wrong : value_command t ≡ values.Wrong → Valued (scan.Bad fault.Grammar 0)
   unfolding value_by report
-  value-wrong e = value-told _ e (λ f h. refl)
+  value_wrong e = value_told _ e (λ f h. refl)
 
-  pub value-cut : value_command t ≡ values.Cut → Valued (scan.Bad fault.Grammar (length t))
+  pub value_cut : value_command t ≡ values.Cut → Valued (scan.Bad fault.Grammar (length t))
   unfolding value_by report
-  value-cut e = value-told _ e (λ f h. refl)
+  value_cut e = value_told _ e (λ f h. refl)
 
 -- ---- an element or a fragment that is opened: `front` is what the scan of its level and place told
 
 module _ (t : List ℕ) (d : ℕ) (p : Place) {front : Scan} (h : front ≡ report (opened d p (taken 0))) where
-  pub opens-bad : {A : Type 0} (node : ℕ → List ℕ → Parsed A) (x : Fault) (q : ℕ) → front ≡ scan.Bad x q → Opens (λ f l. opened d p (node f l)) t front
+  pub opens_bad : {A : Type 0} (node : ℕ → List ℕ → Parsed A) (x : Fault) (q : ℕ) → front ≡ scan.Bad x q → Opens (λ f l. opened d p (node f l)) t front
   unfolding sequel
-  opens-bad node x q e = record { tells = λ f i. opened-then d p (node f t) ∙ rw (← h, e) }
+  opens_bad node x q e = record { tells = λ f i. opened_then d p (node f t) ∙ rw (← h, e) }
 
-  opens-good : {A : Type 0} (node : ℕ → List ℕ → Parsed A) (u : ℕ) {q r : Scan} → front ≡ scan.Good u → r ≡ shifted 9 q
+  opens_good : {A : Type 0} (node : ℕ → List ℕ → Parsed A) (u : ℕ) {q r : Scan} → front ≡ scan.Good u → r ≡ shifted 9 q
       → ((f : ℕ) → length t ≤ f → report (node f t) ≡ q) → Opens (λ f l. opened d p (node f l)) t r
   unfolding sequel
-  opens-good node u e k N = record { tells = λ f i. opened-then d p (node f t) ∙ rw (← h, e, k) (ap (shifted 9) (N f i)) }
+  opens_good node u e k N = record { tells = λ f i. opened_then d p (node f t) ∙ rw (← h, e, k) (ap (shifted 9) (N f i)) }
 
   module _ (text : List ℕ) (u : ℕ) (good : front ≡ scan.Good u) (room : 9 ≤ length t) where
-    pub opens-element : {q r : Scan} → ((p : Place) → Reports (λ f l. element_at (suc f) text d p l) (part 9 t) q) → r ≡ shifted 9 q
+    pub opens_element : {q r : Scan} → ((p : Place) → Reports (λ f l. element_at (suc f) text d p l) (part 9 t) q) → r ≡ shifted 9 q
         → Opens (λ f l. opened d p (element_at f text d p (drop 9 l))) t r
-    opens-element {q} R k = opens-good (λ f l. element_at f text d p (drop 9 l)) u good k go
+    opens_element {q} R k = opens_good (λ f l. element_at f text d p (drop 9 l)) u good k go
       where
         go : (f : ℕ) → length t ≤ f → report (element_at f text d p (drop 9 t)) ≡ q
         go zero i = absurd (omega arith)
-        go (suc f) i = (reports-part 9 t (R p)).tells f (omega (arith, length-drop 9 t))
+        go (suc f) i = (reports_part 9 t (R p)).tells f (omega (arith, length-drop 9 t))
 
-    pub opens-fragment : {q r : Scan} → Reports (λ f l. children_at f text (d + 1) l) (part 9 t) q → r ≡ shifted 9 q
+    pub opens_fragment : {q r : Scan} → Reports (λ f l. children_at f text (d + 1) l) (part 9 t) q → r ≡ shifted 9 q
         → Opens (λ f l. opened d p (fragment_at f text d p (drop 9 l))) t r
     unfolding fragment_at
-    opens-fragment {q} R k = opens-good (λ f l. fragment_at f text d p (drop 9 l)) u good k go
+    opens_fragment {q} R k = opens_good (λ f l. fragment_at f text d p (drop 9 l)) u good k go
       where
         go : (f : ℕ) → length t ≤ f → report (fragment_at f text d p (drop 9 t)) ≡ q
         go zero i = absurd (omega arith)
-        go (suc f) i = report-map (fragment p) _ ∙ (rw (add-one d) at ((reports-part {read = λ f l. children_at f text (d + 1) l} 9 t R).tells f (omega (arith, length-drop 9 t))))
+        go (suc f) i = report_map (fragment p) _ ∙ (rw (add-one d) at ((reports_part {read = λ f l. children_at f text (d + 1) l} 9 t R).tells f (omega (arith, length-drop 9 t))))
 
 -- what such a scan says stays within the tape
 module _ (text t : List ℕ) (d : ℕ) (p : Place) {q : Scan} (room : 9 ≤ length t) where
-  opens-within : (node : ℕ → List ℕ → Parsed Node) → ((f : ℕ) (l : List ℕ) → Placed p → Reads (InOrder text) 0 (length l) (node f l))
+  opens_within : (node : ℕ → List ℕ → Parsed Node) → ((f : ℕ) (l : List ℕ) → Placed p → Reads (InOrder text) 0 (length l) (node f l))
       → Opens (λ f l. opened d p (node f (drop 9 l))) t q → Within 1 (length t) q
-  opens-within node R O = reads-within (less 1 (omega arith) (opened-reads d p t room (R (length t) (drop 9 t)))) (O.tells (length t) (omega arith))
+  opens_within node R O = reads_within (less 1 (omega arith) (opened_reads d p t room (R (length t) (drop 9 t)))) (O.tells (length t) (omega arith))
 
-  pub element-opens-within : Opens (λ f l. opened d p (element_at f text d p (drop 9 l))) t q → Within 1 (length t) q
-  element-opens-within O = opens-within (λ f l. element_at f text d p l) (λ f l o. element-reads f text d p l o) O
+  pub element_opens_within : Opens (λ f l. opened d p (element_at f text d p (drop 9 l))) t q → Within 1 (length t) q
+  element_opens_within O = opens_within (λ f l. element_at f text d p l) (λ f l o. element_reads f text d p l o) O
 
-  pub fragment-opens-within : Opens (λ f l. opened d p (fragment_at f text d p (drop 9 l))) t q → Within 1 (length t) q
-  fragment-opens-within O = opens-within (λ f l. fragment_at f text d p l) (λ f l o. fragment-reads f text d p l o) O
+  pub fragment_opens_within : Opens (λ f l. opened d p (fragment_at f text d p (drop 9 l))) t q → Within 1 (length t) q
+  fragment_opens_within O = opens_within (λ f l. fragment_at f text d p l) (λ f l o. fragment_reads f text d p l o) O
 
 -- ---- an element behind its place: a name, attributes, children
 
@@ -159,48 +159,48 @@ module _ (text t : List ℕ) (d : ℕ) where
   Elements r = (p : Place) → Reports (λ f l. element_at (suc f) text d p l) t r
 
   -- from what its parts report
-  element-report : (p : Place) (f : ℕ)
+  element_report : (p : Place) (f : ℕ)
       → report (element_at (suc f) text d p t)
       ≡ sequel (report (name_at f text t))
       (λ u. sequel (shifted u (report (attributes_at f text (d + 1) (drop u t)))) (λ v. shifted v (report (children_at f text (d + 1) (drop v t)))))
   unfolding element_at
-  element-report p f =
+  element_report p f =
       rw (add-one d)
-      (report-then _ _ _ (λ n u.
-      report-then _ _ _ (λ a v. report-map (element p n a) _ ∙ report-from v _)
-      ∙ ap (λ (x : Scan). sequel x (λ v. shifted v (report (children_at f text (suc d) (drop v t))))) (report-from u _)))
+      (report_then _ _ _ (λ n u.
+      report_then _ _ _ (λ a v. report_map (element p n a) _ ∙ report_from v _)
+      ∙ ap (λ (x : Scan). sequel x (λ v. shifted v (report (children_at f text (suc d) (drop v t))))) (report_from u _)))
 
   -- how far a scan of it reaches
-  pub element-reach : (n : ℕ) {q : Scan} → n ≤ length t → ((p : Place) → Reports (λ f l. element_at (suc f) text d p l) (part n t) q) → n + reach q ≤ length t
-  element-reach n h R =
+  pub element_reach : (n : ℕ) {q : Scan} → n ≤ length t → ((p : Place) → Reports (λ f l. element_at (suc f) text d p l) (part n t) q) → n + reach q ≤ length t
+  element_reach n h R =
       let origin : Place = record { line = 0; column = 0 } in
       let placed : Placed origin = record { line = λ q. omega arith; column = λ q. omega arith } in
-      part-reach (λ f l. element-reads (suc f) text d origin l placed) n t h (R origin)
+      part_reach (λ f l. element_reads (suc f) text d origin l placed) n t h (R origin)
 
   module _ {name : Scan} (N : Reports (λ f l. name_at f text l) t name) where
-    pub element-no-name : {x : Fault} {q : ℕ} → name ≡ scan.Bad x q → Elements name
+    pub element_no_name : {x : Fault} {q : ℕ} → name ≡ scan.Bad x q → Elements name
     unfolding sequel
-    element-no-name e p = record { tells = λ f h. element-report p f ∙ rw (N.tells f h, e) }
+    element_no_name e p = record { tells = λ f h. element_report p f ∙ rw (N.tells f h, e) }
 
     module _ {u : ℕ} {a attributes : Scan} (good : name ≡ scan.Good u) (room : u ≤ length t)
         (A : Reports (λ f l. attributes_at f text (d + 1) l) (part u t) a) (shift : attributes ≡ shifted u a) where
-      element-named : (p : Place) (f : ℕ) → length t < f
+      element_named : (p : Place) (f : ℕ) → length t < f
           → report (element_at (suc f) text d p t) ≡ sequel attributes (λ v. shifted v (report (children_at f text (d + 1) (drop v t))))
       unfolding sequel
-      element-named p f h =
-          let x : report (attributes_at f text (d + 1) (drop u t)) ≡ a = (reports-part u t A).tells f (omega (arith, length-drop u t)) in
-          element-report p f ∙ rw (N.tells f h, good, x, shift)
+      element_named p f h =
+          let x : report (attributes_at f text (d + 1) (drop u t)) ≡ a = (reports_part u t A).tells f (omega (arith, length-drop u t)) in
+          element_report p f ∙ rw (N.tells f h, good, x, shift)
 
-      pub element-no-attributes : {x : Fault} {q : ℕ} → attributes ≡ scan.Bad x q → Elements attributes
+      pub element_no_attributes : {x : Fault} {q : ℕ} → attributes ≡ scan.Bad x q → Elements attributes
       unfolding sequel
-      element-no-attributes e p = record { tells = λ f h. element-named p f h ∙ rw e }
+      element_no_attributes e p = record { tells = λ f h. element_named p f h ∙ rw e }
 
-      pub element-whole : {v : ℕ} {k r : Scan} → attributes ≡ scan.Good v → v ≤ length t
+      pub element_whole : {v : ℕ} {k r : Scan} → attributes ≡ scan.Good v → v ≤ length t
           → Reports (λ f l. children_at f text (d + 1) l) (part v t) k → r ≡ shifted v k → Elements r
       unfolding sequel
-      element-whole {v} {k} e fits K s p =
+      element_whole {v} {k} e fits K s p =
           record {
             tells = λ f h.
-                let x : report (children_at f text (d + 1) (drop v t)) ≡ k = (reports-part v t K).tells f (omega (arith, length-drop v t)) in
-                element-named p f h ∙ rw (e, x, s);
+                let x : report (children_at f text (d + 1) (drop v t)) ≡ k = (reports_part v t K).tells f (omega (arith, length-drop v t)) in
+                element_named p f h ∙ rw (e, x, s);
           }

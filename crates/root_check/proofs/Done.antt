@@ -7,7 +7,7 @@ use Rattle.definitions.specs.Judging.{Parsed, done, stop}
 use Rattle.root_check.specs.declared.check.Checked.TheVariants as checks
 use Rattle.root_check.specs.Checking.{checked}
 
-pub checked-good : {A : Type 0} (p : Parsed A) → checked p ≡ checks.Good → (a : A) × (u : ℕ) × (p ≡ done a u)
+pub checked_good : {A : Type 0} (p : Parsed A) → checked p ≡ checks.Good → (a : A) × (u : ℕ) × (p ≡ done a u)
 unfolding checked
-checked-good (done a u) e = (a, u, refl)
-checked-good (stop f q) e = let z : ◌≡◌ {A = ℕ} 0 1 = cc in absurd (omega arith)
+checked_good (done a u) e = (a, u, refl)
+checked_good (stop f q) e = let z : ◌≡◌ {A = ℕ} 0 1 = cc in absurd (omega arith)

@@ -16,7 +16,7 @@ use Rattle.commands.specs.declared.root.AttributeCommand.TheVariants as attribut
 use Rattle.commands.specs.declared.root.PropertyCommand.TheVariants as properties
 use Rattle.commands.specs.declared.root.ChildCommand.TheVariants as children
 use Rattle.commands.specs.Root.{member_command, attribute_command, property_command, child_command}
-use Rattle.commands.proofs.Lengths.{member-fits, attribute-fits, property-fits, child_fits}
+use Rattle.commands.proofs.Lengths.{member_fits, attribute_fits, property_fits, child_fits}
 use Rattle.definitions.specs.Judging.{Parsed, ◌then◌, map, from, spanned, named, worse}
 use Rattle.definitions.specs.Tree.{unnamed, prop_name, Attributes, attribute, namespaced_attribute, spread, literal, Value, text_child, expression_child}
 use Rattle.definitions.specs.Tree.{empty_child, spread_child, node_child}
@@ -27,10 +27,10 @@ use Rattle.root_check.specs.declared.check.Scan.TheVariants as scan
 use Rattle.root_check.specs.declared.check.Step.{Step}
 use Rattle.root_check.specs.declared.check.Step.TheVariants as step
 use Rattle.root_check.specs.Checking.{report, taken, shifted, sequel, Within, Reports, Opens, Follows, going, stepped, Moves, Steps}
-use Rattle.root_check.proofs.Scans.{stepped-going, sequel-sequel, report-from, report-map, report-then, spanned-then, named-then, lettered-then}
-use Rattle.root_check.proofs.Readings.{reads, reads-within, named-reads, spanned-reads, lettered-reads, properties-reads, value-reads}
-use Rattle.root_check.proofs.Behind.{part, reports-part, shifted-within, follows-within}
-use Rattle.root_check.proofs.Commands.{element-opens-within, fragment-opens-within}
+use Rattle.root_check.proofs.Scans.{stepped_going, sequel_sequel, report_from, report_map, report_then, spanned_then, named_then, lettered_then}
+use Rattle.root_check.proofs.Readings.{reads, reads_within, named_reads, spanned_reads, lettered_reads, properties_reads, value_reads}
+use Rattle.root_check.proofs.Behind.{part, reports_part, shifted_within, follows_within}
+use Rattle.root_check.proofs.Commands.{element_opens_within, fragment_opens_within}
 
 -- ---- steps
 
@@ -41,38 +41,38 @@ module _ {A : Type 0} {read : ℕ → List ℕ → Parsed A} {t : List ℕ} wher
       → Steps read t r
   unfolding going
   going_steps q e w k =
-      subst (Steps read t) (sym e) (record { tells = λ f h. k f h ∙ sym (stepped-going q _); moves = moves q w })
+      subst (Steps read t) (sym e) (record { tells = λ f h. k f h ∙ sym (stepped_going q _); moves = moves q w })
     where
       moves : (q : Scan) → Within 1 (length t) q → Moves (length t) (going q)
       moves (scan.Good u) w = w
       moves (scan.Bad f p) w = w
 
   -- it goes on behind n bytes
-  pub next-steps : (n : ℕ) → 1 ≤ n → n ≤ length t
+  pub next_steps : (n : ℕ) → 1 ≤ n → n ≤ length t
       → ((f : ℕ) → length t < suc f → report (read (suc f) t) ≡ shifted n (report (read f (drop n t))))
       → Steps read t (step.Next n)
   unfolding stepped
-  next-steps n h i k = record { tells = k; moves = (h, i) }
+  next_steps n h i k = record { tells = k; moves = (h, i) }
 
-  pub end-steps : (n : ℕ) → n ≤ length t → ((f : ℕ) → report (read (suc f) t) ≡ scan.Good n) → Steps read t (step.End n)
+  pub end_steps : (n : ℕ) → n ≤ length t → ((f : ℕ) → report (read (suc f) t) ≡ scan.Good n) → Steps read t (step.End n)
   unfolding stepped
-  end-steps n h k = record { tells = λ f i. k f; moves = h }
+  end_steps n h k = record { tells = λ f i. k f; moves = h }
 
-  pub bad-steps : {x : Fault} (p : ℕ) → p ≤ length t → ((f : ℕ) → report (read (suc f) t) ≡ scan.Bad x p) → Steps read t (step.Bad x p)
+  pub bad_steps : {x : Fault} (p : ℕ) → p ≤ length t → ((f : ℕ) → report (read (suc f) t) ≡ scan.Bad x p) → Steps read t (step.Bad x p)
   unfolding stepped
-  bad-steps p h k = record { tells = λ f i. k f; moves = h }
+  bad_steps p h k = record { tells = λ f i. k f; moves = h }
 
 -- ---- a command of n bytes whose span was judged
 
 module _ {q : Scan} (n len : ℕ) (one : 1 ≤ n) (room : n ≤ len) where
-  pub named-within : (b : Bounds) → q ≡ report (named b (taken n)) → Within 1 len q
-  named-within b e = reads-within {Q = λ x. Unit {0}} (named-reads b (λ g. reads {u = n} tt one room)) (sym e)
+  pub named_within : (b : Bounds) → q ≡ report (named b (taken n)) → Within 1 len q
+  named_within b e = reads_within {Q = λ x. Unit {0}} (named_reads b (λ g. reads {u = n} tt one room)) (sym e)
 
-  pub spanned-within : (text : List ℕ) (s : Span) → q ≡ report (spanned (bounds_of text s) (taken n)) → Within 1 len q
-  spanned-within text s e = reads-within {Q = λ x. Unit {0}} (spanned-reads text s (λ g. reads {u = n} tt one room)) (sym e)
+  pub spanned_within : (text : List ℕ) (s : Span) → q ≡ report (spanned (bounds_of text s) (taken n)) → Within 1 len q
+  spanned_within text s e = reads_within {Q = λ x. Unit {0}} (spanned_reads text s (λ g. reads {u = n} tt one room)) (sym e)
 
-  pub lettered-within : (text : List ℕ) (s : Span) → q ≡ report (lettered text s (taken n)) → Within 1 len q
-  lettered-within text s e = reads-within {Q = λ x. Unit {0}} (lettered-reads text s (λ g. reads {u = n} tt one room)) (sym e)
+  pub lettered_within : (text : List ℕ) (s : Span) → q ≡ report (lettered text s (taken n)) → Within 1 len q
+  lettered_within text s e = reads_within {Q = λ x. Unit {0}} (lettered_reads text s (λ g. reads {u = n} tt one room)) (sym e)
 
 -- ---- names and properties
 
@@ -80,46 +80,46 @@ module _ (text t : List ℕ) where
   abbrev pub Members : Step → Type 0
   Members r = Steps (λ f l. members_at f text l) t r
 
-  pub members-member : (s : Span) {q : Scan} {r : Step} → member_command t ≡ members.Member s → q ≡ report (named (bounds_of text s) (taken 5)) → r ≡ going q
+  pub members_member : (s : Span) {q : Scan} {r : Step} → member_command t ≡ members.Member s → q ≡ report (named (bounds_of text s) (taken 5)) → r ≡ going q
       → Members r
   unfolding members_at members_by
-  members-member s e h k =
-      going_steps _ k (named-within 5 (length t) (omega arith) (member-fits t e) _ h)
-      (λ f i. rw (e, h) (named-then 5 _ _ (report-map (s ∷◌) _ ∙ report-from 5 _) (bounds_of text s)))
+  members_member s e h k =
+      going_steps _ k (named_within 5 (length t) (omega arith) (member_fits t e) _ h)
+      (λ f i. rw (e, h) (named_then 5 _ _ (report_map (s ∷◌) _ ∙ report_from 5 _) (bounds_of text s)))
 
-  pub members-other : member_command t ≡ members.Other → Members (step.End 0)
+  pub members_other : member_command t ≡ members.Other → Members (step.End 0)
   unfolding members_at members_by report
-  members-other e = end-steps 0 (omega arith) (λ f. rw e)
+  members_other e = end_steps 0 (omega arith) (λ f. rw e)
 
-  pub members-cut : member_command t ≡ members.Cut → Members (step.Bad fault.Grammar (length t))
+  pub members_cut : member_command t ≡ members.Cut → Members (step.Bad fault.Grammar (length t))
   unfolding members_at members_by report
-  members-cut e = bad-steps _ (omega arith) (λ f. rw e)
+  members_cut e = bad_steps _ (omega arith) (λ f. rw e)
 
   abbrev pub Properties : Step → Type 0
   Properties r = Steps (λ f l. properties_at f text l) t r
 
-  pub properties-property : (x : ℕ) → property_command t ≡ properties.Property x → Properties (step.Next 3)
+  pub properties_property : (x : ℕ) → property_command t ≡ properties.Property x → Properties (step.Next 3)
   unfolding properties_at properties_by
-  properties-property x e = next-steps 3 (omega arith) (property-fits t e) (λ f h. rw e (report-map (unnamed x ∷◌) _ ∙ report-from 3 _))
+  properties_property x e = next_steps 3 (omega arith) (property_fits t e) (λ f h. rw e (report_map (unnamed x ∷◌) _ ∙ report_from 3 _))
 
-  pub properties-named : (x : ℕ) (s : Span) {q : Scan} {r : Step} → property_command t ≡ properties.Named x s
+  pub properties_named : (x : ℕ) (s : Span) {q : Scan} {r : Step} → property_command t ≡ properties.Named x s
       → q ≡ report (spanned (bounds_of text s) (taken 7)) → r ≡ going q → Properties r
   unfolding properties_at properties_by
-  properties-named x s e h k =
-      going_steps _ k (spanned-within 7 (length t) (omega arith) (property-fits t e) text s h)
-      (λ f i. rw (e, h) (spanned-then 7 _ _ (report-map (prop_name x s ∷◌) _ ∙ report-from 7 _) (bounds_of text s)))
+  properties_named x s e h k =
+      going_steps _ k (spanned_within 7 (length t) (omega arith) (property_fits t e) text s h)
+      (λ f i. rw (e, h) (spanned_then 7 _ _ (report_map (prop_name x s ∷◌) _ ∙ report_from 7 _) (bounds_of text s)))
 
-  pub properties-end : property_command t ≡ properties.End → Properties (step.End 1)
+  pub properties_end : property_command t ≡ properties.End → Properties (step.End 1)
   unfolding properties_at properties_by report
-  properties-end e = end-steps 1 (property-fits t e) (λ f. rw e)
+  properties_end e = end_steps 1 (property_fits t e) (λ f. rw e)
 
-  pub properties-wrong : property_command t ≡ properties.Wrong → Properties (step.Bad fault.Grammar 0)
+  pub properties_wrong : property_command t ≡ properties.Wrong → Properties (step.Bad fault.Grammar 0)
   unfolding properties_at properties_by report
-  properties-wrong e = bad-steps 0 (omega arith) (λ f. rw e)
+  properties_wrong e = bad_steps 0 (omega arith) (λ f. rw e)
 
-  pub properties-cut : property_command t ≡ properties.Cut → Properties (step.Bad fault.Grammar (length t))
+  pub properties_cut : property_command t ≡ properties.Cut → Properties (step.Bad fault.Grammar (length t))
   unfolding properties_at properties_by report
-  properties-cut e = bad-steps _ (omega arith) (λ f. rw e)
+  properties_cut e = bad_steps _ (omega arith) (λ f. rw e)
 
 -- ---- attributes
 
@@ -135,55 +135,55 @@ module _ (text t : List ℕ) (d : ℕ) where
       ≡ sequel q (λ u. shifted u (report (attributes_at f text d (drop u t))))
   valued b n g {q₀} h F f i =
       rw (← F.tells f (omega arith), h)
-      (named-then n _ (λ v. sequel (shifted v (report (value_at f text d (drop v t)))) (λ u. shifted u (report (attributes_at f text d (drop u t)))))
-      (report-then _ _ _ (λ v u. report-map (g v) _ ∙ report-from u _)
-      ∙ ap (λ (x : Scan). sequel x (λ u. shifted u (report (attributes_at f text d (drop u t))))) (report-from n (value_at f text d (drop n t))))
+      (named_then n _ (λ v. sequel (shifted v (report (value_at f text d (drop v t)))) (λ u. shifted u (report (attributes_at f text d (drop u t)))))
+      (report_then _ _ _ (λ v u. report_map (g v) _ ∙ report_from u _)
+      ∙ ap (λ (x : Scan). sequel x (λ u. shifted u (report (attributes_at f text d (drop u t))))) (report_from n (value_at f text d (drop n t))))
       b
-      ∙ sequel-sequel (report (named b (taken n))) _ _)
+      ∙ sequel_sequel (report (named b (taken n))) _ _)
 
-  pub attributes-plain : (s : Span) {q₀ q : Scan} {r : Step} → attribute_command t ≡ attributes.Plain s → q₀ ≡ report (named (bounds_of text s) (taken 5))
+  pub attributes_plain : (s : Span) {q₀ q : Scan} {r : Step} → attribute_command t ≡ attributes.Plain s → q₀ ≡ report (named (bounds_of text s) (taken 5))
       → Follows (λ f l. value_at f text d l) t q₀ q → r ≡ going q → Attributed r
   unfolding attributes_at attributes_by
-  attributes-plain s e h F k =
+  attributes_plain s e h F k =
       going_steps _ k
-      (follows-within (λ f l. value-reads f text d l) t _ (named-within 5 (length t) (omega arith) (attribute-fits t e) _ h) F)
+      (follows_within (λ f l. value_reads f text d l) t _ (named_within 5 (length t) (omega arith) (attribute_fits t e) _ h) F)
       (λ f i. rw e (valued (bounds_of text s) 5 (attribute s) h F f i))
 
-  pub attributes-namespaced : (s n : Span) {q₀ q : Scan} {r : Step} → attribute_command t ≡ attributes.Namespaced s n
+  pub attributes_namespaced : (s n : Span) {q₀ q : Scan} {r : Step} → attribute_command t ≡ attributes.Namespaced s n
       → q₀ ≡ report (named (worse (bounds_of text s) (bounds_of text n)) (taken 9))
       → Follows (λ f l. value_at f text d l) t q₀ q → r ≡ going q → Attributed r
   unfolding attributes_at attributes_by
-  attributes-namespaced s n e h F k =
+  attributes_namespaced s n e h F k =
       going_steps _ k
-      (follows-within (λ f l. value-reads f text d l) t _ (named-within 9 (length t) (omega arith) (attribute-fits t e) _ h) F)
+      (follows_within (λ f l. value_reads f text d l) t _ (named_within 9 (length t) (omega arith) (attribute_fits t e) _ h) F)
       (λ f i. rw e (valued (worse (bounds_of text s) (bounds_of text n)) 9 (namespaced_attribute s n) h F f i))
 
-  pub attributes-spread : (x : ℕ) → attribute_command t ≡ attributes.Spread x → Attributed (step.Next 3)
+  pub attributes_spread : (x : ℕ) → attribute_command t ≡ attributes.Spread x → Attributed (step.Next 3)
   unfolding attributes_at attributes_by
-  attributes-spread x e = next-steps 3 (omega arith) (attribute-fits t e) (λ f h. rw e (report-map (spread x) _ ∙ report-from 3 _))
+  attributes_spread x e = next_steps 3 (omega arith) (attribute_fits t e) (λ f h. rw e (report_map (spread x) _ ∙ report_from 3 _))
 
-  pub attributes-literal : (x : ℕ) {q₀ q : Scan} {r : Step} → attribute_command t ≡ attributes.Literal x
+  pub attributes_literal : (x : ℕ) {q₀ q : Scan} {r : Step} → attribute_command t ≡ attributes.Literal x
       → Reports (λ f l. properties_at f text l) (part 3 t) q₀ → q ≡ shifted 3 q₀ → r ≡ going q → Attributed r
   unfolding attributes_at attributes_by
-  attributes-literal x {q₀} e R h k =
-      going_steps _ k (shifted-within (λ f l. properties-reads f text l) 3 t (omega arith) (attribute-fits t e) R h)
+  attributes_literal x {q₀} e R h k =
+      going_steps _ k (shifted_within (λ f l. properties_reads f text l) 3 t (omega arith) (attribute_fits t e) R h)
       (λ f i.
-      let y : report (properties_at f text (drop 3 t)) ≡ q₀ = (reports-part 3 t R).tells f (omega (arith, length-drop 3 t, attribute-fits t e)) in
+      let y : report (properties_at f text (drop 3 t)) ≡ q₀ = (reports_part 3 t R).tells f (omega (arith, length-drop 3 t, attribute_fits t e)) in
       rw (e, h, ← y)
-      (report-then _ _ _ (λ v u. report-map (literal x v) _ ∙ report-from u _)
-      ∙ ap (λ (x : Scan). sequel x (λ u. shifted u (report (attributes_at f text d (drop u t))))) (report-from 3 (properties_at f text (drop 3 t)))))
+      (report_then _ _ _ (λ v u. report_map (literal x v) _ ∙ report_from u _)
+      ∙ ap (λ (x : Scan). sequel x (λ u. shifted u (report (attributes_at f text d (drop u t))))) (report_from 3 (properties_at f text (drop 3 t)))))
 
-  pub attributes-end : attribute_command t ≡ attributes.End → Attributed (step.End 1)
+  pub attributes_end : attribute_command t ≡ attributes.End → Attributed (step.End 1)
   unfolding attributes_at attributes_by report
-  attributes-end e = end-steps 1 (attribute-fits t e) (λ f. rw e)
+  attributes_end e = end_steps 1 (attribute_fits t e) (λ f. rw e)
 
-  pub attributes-wrong : attribute_command t ≡ attributes.Wrong → Attributed (step.Bad fault.Grammar 0)
+  pub attributes_wrong : attribute_command t ≡ attributes.Wrong → Attributed (step.Bad fault.Grammar 0)
   unfolding attributes_at attributes_by report
-  attributes-wrong e = bad-steps 0 (omega arith) (λ f. rw e)
+  attributes_wrong e = bad_steps 0 (omega arith) (λ f. rw e)
 
-  pub attributes-cut : attribute_command t ≡ attributes.Cut → Attributed (step.Bad fault.Grammar (length t))
+  pub attributes_cut : attribute_command t ≡ attributes.Cut → Attributed (step.Bad fault.Grammar (length t))
   unfolding attributes_at attributes_by report
-  attributes-cut e = bad-steps _ (omega arith) (λ f. rw e)
+  attributes_cut e = bad_steps _ (omega arith) (λ f. rw e)
 
 -- ---- children
 
@@ -191,46 +191,46 @@ module _ (text t : List ℕ) (d : ℕ) where
   abbrev pub Childed : Step → Type 0
   Childed r = Steps (λ f l. children_at f text d l) t r
 
-  pub children-text : (s : Span) {q : Scan} {r : Step} → child_command t ≡ children.Text s → q ≡ report (lettered text s (taken 5)) → r ≡ going q → Childed r
+  pub children_text : (s : Span) {q : Scan} {r : Step} → child_command t ≡ children.Text s → q ≡ report (lettered text s (taken 5)) → r ≡ going q → Childed r
   unfolding children_at children_by
-  children-text s e h k =
-      going_steps _ k (lettered-within 5 (length t) (omega arith) (child_fits t e) text s h)
-      (λ f i. rw (e, h) (lettered-then 5 _ _ (report-map (text_child s) _ ∙ report-from 5 _) text s))
+  children_text s e h k =
+      going_steps _ k (lettered_within 5 (length t) (omega arith) (child_fits t e) text s h)
+      (λ f i. rw (e, h) (lettered_then 5 _ _ (report_map (text_child s) _ ∙ report_from 5 _) text s))
 
-  pub children-expression : (x : ℕ) → child_command t ≡ children.Expression x → Childed (step.Next 3)
+  pub children_expression : (x : ℕ) → child_command t ≡ children.Expression x → Childed (step.Next 3)
   unfolding children_at children_by
-  children-expression x e = next-steps 3 (omega arith) (child_fits t e) (λ f h. rw e (report-map (expression_child x) _ ∙ report-from 3 _))
+  children_expression x e = next_steps 3 (omega arith) (child_fits t e) (λ f h. rw e (report_map (expression_child x) _ ∙ report_from 3 _))
 
-  pub children-empty : child_command t ≡ children.Empty → Childed (step.Next 1)
+  pub children_empty : child_command t ≡ children.Empty → Childed (step.Next 1)
   unfolding children_at children_by
-  children-empty e = next-steps 1 (omega arith) (child_fits t e) (λ f h. rw e (report-map empty_child _ ∙ report-from 1 _))
+  children_empty e = next_steps 1 (omega arith) (child_fits t e) (λ f h. rw e (report_map empty_child _ ∙ report_from 1 _))
 
-  pub children-spread : (x : ℕ) → child_command t ≡ children.Spread x → Childed (step.Next 3)
+  pub children_spread : (x : ℕ) → child_command t ≡ children.Spread x → Childed (step.Next 3)
   unfolding children_at children_by
-  children-spread x e = next-steps 3 (omega arith) (child_fits t e) (λ f h. rw e (report-map (spread_child x) _ ∙ report-from 3 _))
+  children_spread x e = next_steps 3 (omega arith) (child_fits t e) (λ f h. rw e (report_map (spread_child x) _ ∙ report_from 3 _))
 
-  pub children-element : (p : Place) {q : Scan} {r : Step} → child_command t ≡ children.Element p
+  pub children_element : (p : Place) {q : Scan} {r : Step} → child_command t ≡ children.Element p
       → Opens (λ f l. opened d p (element_at f text d p (drop 9 l))) t q → r ≡ going q → Childed r
   unfolding children_at children_by
-  children-element p e O k =
-      going_steps _ k (element-opens-within text t d p (child_fits t e) O)
-      (λ f i. rw (e, ← O.tells f (omega arith)) (report-then _ _ _ (λ n u. report-map (node_child n) _ ∙ report-from u _)))
+  children_element p e O k =
+      going_steps _ k (element_opens_within text t d p (child_fits t e) O)
+      (λ f i. rw (e, ← O.tells f (omega arith)) (report_then _ _ _ (λ n u. report_map (node_child n) _ ∙ report_from u _)))
 
-  pub children-fragment : (p : Place) {q : Scan} {r : Step} → child_command t ≡ children.Fragment p
+  pub children_fragment : (p : Place) {q : Scan} {r : Step} → child_command t ≡ children.Fragment p
       → Opens (λ f l. opened d p (fragment_at f text d p (drop 9 l))) t q → r ≡ going q → Childed r
   unfolding children_at children_by
-  children-fragment p e O k =
-      going_steps _ k (fragment-opens-within text t d p (child_fits t e) O)
-      (λ f i. rw (e, ← O.tells f (omega arith)) (report-then _ _ _ (λ n u. report-map (node_child n) _ ∙ report-from u _)))
+  children_fragment p e O k =
+      going_steps _ k (fragment_opens_within text t d p (child_fits t e) O)
+      (λ f i. rw (e, ← O.tells f (omega arith)) (report_then _ _ _ (λ n u. report_map (node_child n) _ ∙ report_from u _)))
 
-  pub children-end : child_command t ≡ children.End → Childed (step.End 1)
+  pub children_ended : child_command t ≡ children.End → Childed (step.End 1)
   unfolding children_at children_by report
-  children-end e = end-steps 1 (child_fits t e) (λ f. rw e)
+  children_ended e = end_steps 1 (child_fits t e) (λ f. rw e)
 
-  pub children-wrong : child_command t ≡ children.Wrong → Childed (step.Bad fault.Grammar 0)
+  pub children_wrong : child_command t ≡ children.Wrong → Childed (step.Bad fault.Grammar 0)
   unfolding children_at children_by report
-  children-wrong e = bad-steps 0 (omega arith) (λ f. rw e)
+  children_wrong e = bad_steps 0 (omega arith) (λ f. rw e)
 
-  pub children-cut : child_command t ≡ children.Cut → Childed (step.Bad fault.Grammar (length t))
+  pub children_cut : child_command t ≡ children.Cut → Childed (step.Bad fault.Grammar (length t))
   unfolding children_at children_by report
-  children-cut e = bad-steps _ (omega arith) (λ f. rw e)
+  children_cut e = bad_steps _ (omega arith) (λ f. rw e)

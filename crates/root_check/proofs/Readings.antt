@@ -1,9 +1,9 @@
 -- What holds of everything that is read off a tape, whatever the bound of the turns: how much it takes, where a fault lies, and that the tree is in
 -- order in the text.
 --     Reads                  the claim, of a reading
---     reads-done             what it says of a tree and the bytes that it took
---     members-reads, ..      each reader
---     root-in-order          a root is in order, and takes the whole tape
+--     reads_done             what it says of a tree and the bytes that it took
+--     members_reads, ..      each reader
+--     root_in_order          a root is in order, and takes the whole tape
 -- Assumes nothing.
 use mathlib.Core.Path.{◌≡◌, refl, sym, subst, ◌∙◌}
 use mathlib.Core.Bool.{Bool, true, false, cond, ◌||◌}
@@ -38,7 +38,7 @@ use Rattle.commands.specs.declared.root.ValueCommand.TheVariants as values
 use Rattle.commands.specs.declared.root.ChildCommand.{ChildCommand}
 use Rattle.commands.specs.declared.root.ChildCommand.TheVariants as children
 use Rattle.commands.specs.Root.{heritage_command, scope_command, name_command, member_command, attribute_command, property_command, value_command, child_command}
-use Rattle.commands.proofs.Lengths.{heritage-fits, scope-fits, name-fits, member-fits, attribute-fits, property-fits, value-fits, child_fits}
+use Rattle.commands.proofs.Lengths.{heritage_fits, scope_fits, name_fits, member_fits, attribute_fits, property_fits, value_fits, child_fits}
 use Rattle.definitions.specs.Judging.{Parsed, done, stop, ◌then◌, map, from, spanned, named, worse}
 use Rattle.definitions.specs.Tree.{identifier, this, Property, unnamed, prop_name, Node, element, fragment, Attributes, attribute}
 use Rattle.definitions.specs.Tree.{namespaced_attribute, spread, literal, Value, node_value, Children, text_child, expression_child, empty_child}
@@ -58,17 +58,17 @@ pub data Reads {A : Type 0} (Q : A → Type 0) (m len : ℕ) : Parsed A → Type
 -- ---- what the claim says
 
 module _ {A : Type 0} {Q : A → Type 0} {m len : ℕ} where
-  pub reads-done : {p : Parsed A} {a : A} {u : ℕ} → Reads Q m len p → p ≡ done a u → Q a × (m ≤ u) × (u ≤ len)
-  reads-done {a = b} {u = v} (reads {a} {u} q h k) e =
+  pub reads_done : {p : Parsed A} {a : A} {u : ℕ} → Reads Q m len p → p ≡ done a u → Q a × (m ≤ u) × (u ≤ len)
+  reads_done {a = b} {u = v} (reads {a} {u} q h k) e =
       let x : a ≡ b = cc in
       let y : u ≡ v = cc in
       (subst Q x q, omega arith, omega arith)
-  reads-done (faults h) e = let z : ◌≡◌ {A = ℕ} 0 1 = cc in absurd (omega arith)
+  reads_done (faults h) e = let z : ◌≡◌ {A = ℕ} 0 1 = cc in absurd (omega arith)
 
-  pub reads-within : {p : Parsed A} {r : Scan} → Reads Q m len p → report p ≡ r → Within m len r
+  pub reads_within : {p : Parsed A} {r : Scan} → Reads Q m len p → report p ≡ r → Within m len r
   unfolding report
-  reads-within (reads q h k) e = subst (Within m len) e (h, k)
-  reads-within (faults h) e = subst (Within m len) e h
+  reads_within (reads q h k) e = subst (Within m len) e (h, k)
+  reads_within (faults h) e = subst (Within m len) e h
 
 -- ---- readings put together
 
@@ -89,15 +89,15 @@ module _ {A : Type 0} {Q : A → Type 0} where
   behind t u h (faults {p} i) = faults {p = u + p} (omega (arith, length-drop u t))
 
 module _ {A B : Type 0} {Q : A → Type 0} {R : B → Type 0} {m len : ℕ} where
-  then-reads : {n : ℕ} {p : Parsed A} (K : A → ℕ → Parsed B) → Reads Q m len p
+  then_reads : {n : ℕ} {p : Parsed A} (K : A → ℕ → Parsed B) → Reads Q m len p
       → ((a : A) (u : ℕ) → Q a → m ≤ u → u ≤ len → Reads R n len (K a u)) → Reads R n len (p then K)
   unfolding ◌then◌
-  then-reads K (reads q h k) f = f _ _ q h k
-  then-reads K (faults h) f = faults h
+  then_reads K (reads q h k) f = f _ _ q h k
+  then_reads K (faults h) f = faults h
 
-  map-reads : {p : Parsed A} (g : A → B) → ((a : A) → Q a → R (g a)) → Reads Q m len p → Reads R m len (map g p)
+  map_reads : {p : Parsed A} (g : A → B) → ((a : A) → Q a → R (g a)) → Reads Q m len p → Reads R m len (map g p)
   unfolding map
-  map-reads g f r = then-reads _ r (λ a u q h k. reads (f a q) h k)
+  map_reads g f r = then_reads _ r (λ a u q h k. reads (f a q) h k)
 
 -- ---- what is judged at a command
 
@@ -105,16 +105,16 @@ never : false ≡ true → ⊥
 never e = let z : ◌≡◌ {A = ℕ} 0 1 = cc in omega arith
 
 module _ {A : Type 0} {Q : A → Type 0} {m len : ℕ} {p : Parsed A} where
-  pub named-reads : (b : Bounds) → (b ≡ Good → Reads Q m len p) → Reads Q m len (named b p)
+  pub named_reads : (b : Bounds) → (b ≡ Good → Reads Q m len p) → Reads Q m len (named b p)
   unfolding named
-  named-reads Outside f = here
-  named-reads Cuts f = here
-  named-reads Empty f = here
-  named-reads Good f = f refl
+  named_reads Outside f = here
+  named_reads Cuts f = here
+  named_reads Empty f = here
+  named_reads Good f = f refl
 
-  pub spanned-reads : (text : List ℕ) (s : Span) → (Inside text s → Reads Q m len p) → Reads Q m len (spanned (bounds_of text s) p)
+  pub spanned_reads : (text : List ℕ) (s : Span) → (Inside text s → Reads Q m len p) → Reads Q m len (spanned (bounds_of text s) p)
   unfolding spanned
-  spanned-reads text s f = go (bounds_of text s) refl
+  spanned_reads text s f = go (bounds_of text s) refl
     where
       go : (b : Bounds) → bounds_of text s ≡ b → Reads Q m len (spanned b p)
       go Outside e = here
@@ -123,18 +123,18 @@ module _ {A : Type 0} {Q : A → Type 0} {m len : ℕ} {p : Parsed A} where
       go Good e = f (record { inside = λ h. let z : ◌≡◌ {A = ℕ} 0 1 = cc in omega arith; whole = λ h. let z : ◌≡◌ {A = ℕ} 0 1 = cc in omega arith })
 
 module _ {A : Type 0} {Q : A → Type 0} {m len : ℕ} {p : Parsed A} where
-  pub lettered-reads : (text : List ℕ) (s : Span) → (Lettered text s → Reads Q m len p) → Reads Q m len (lettered text s p)
+  pub lettered_reads : (text : List ℕ) (s : Span) → (Lettered text s → Reads Q m len p) → Reads Q m len (lettered text s p)
   unfolding lettered
-  lettered-reads text s f = spanned-reads text s (λ i. go i (has_reference (part_of text s)) refl)
+  lettered_reads text s f = spanned_reads text s (λ i. go i (has_reference (part_of text s)) refl)
     where
       go : Inside text s → (x : Bool) → has_reference (part_of text s) ≡ x → Reads Q m len (cond x (stop fault.Reference 0) p)
       go i true e = here
       go i false e = f (record { within = i; plain = e })
 
 module _ {A : Type 0} {Q : A → Type 0} {m : ℕ} {p : Parsed A} where
-  pub opened-reads : (d : ℕ) (at : Place) (t : List ℕ) → 9 ≤ length t → (Placed at → Reads Q m (length (drop 9 t)) p) → Reads Q (9 + m) (length t) (opened d at p)
+  pub opened_reads : (d : ℕ) (at : Place) (t : List ℕ) → 9 ≤ length t → (Placed at → Reads Q m (length (drop 9 t)) p) → Reads Q (9 + m) (length t) (opened d at p)
   unfolding opened
-  opened-reads d at t h f = deep (leb 64 d)
+  opened_reads d at t h f = deep (leb 64 d)
     where
       line : (b : Bool) (c : Bool) → eqb at.line 4294967295 ≡ b → eqb at.column 4294967295 ≡ c
           → Reads Q (9 + m) (length t) (cond (b || c) (stop fault.Position 0) (from 9 p))
@@ -149,18 +149,18 @@ module _ {A : Type 0} {Q : A → Type 0} {m : ℕ} {p : Parsed A} where
       deep true = here
       deep false = line (eqb at.line 4294967295) (eqb at.column 4294967295) refl refl
 
-worse-good : (a b : Bounds) → worse a b ≡ Good → (a ≡ Good) × (b ≡ Good)
+worse_good : (a b : Bounds) → worse a b ≡ Good → (a ≡ Good) × (b ≡ Good)
 unfolding worse
-worse-good Outside b e = let z : ◌≡◌ {A = ℕ} 0 1 = cc in absurd (omega arith)
-worse-good Cuts Outside e = let z : ◌≡◌ {A = ℕ} 0 1 = cc in absurd (omega arith)
-worse-good Cuts Cuts e = let z : ◌≡◌ {A = ℕ} 0 1 = cc in absurd (omega arith)
-worse-good Cuts Empty e = let z : ◌≡◌ {A = ℕ} 0 1 = cc in absurd (omega arith)
-worse-good Cuts Good e = let z : ◌≡◌ {A = ℕ} 0 1 = cc in absurd (omega arith)
-worse-good Empty Outside e = let z : ◌≡◌ {A = ℕ} 0 1 = cc in absurd (omega arith)
-worse-good Empty Cuts e = let z : ◌≡◌ {A = ℕ} 0 1 = cc in absurd (omega arith)
-worse-good Empty Empty e = let z : ◌≡◌ {A = ℕ} 0 1 = cc in absurd (omega arith)
-worse-good Empty Good e = let z : ◌≡◌ {A = ℕ} 0 1 = cc in absurd (omega arith)
-worse-good Good b e = (refl, e)
+worse_good Outside b e = let z : ◌≡◌ {A = ℕ} 0 1 = cc in absurd (omega arith)
+worse_good Cuts Outside e = let z : ◌≡◌ {A = ℕ} 0 1 = cc in absurd (omega arith)
+worse_good Cuts Cuts e = let z : ◌≡◌ {A = ℕ} 0 1 = cc in absurd (omega arith)
+worse_good Cuts Empty e = let z : ◌≡◌ {A = ℕ} 0 1 = cc in absurd (omega arith)
+worse_good Cuts Good e = let z : ◌≡◌ {A = ℕ} 0 1 = cc in absurd (omega arith)
+worse_good Empty Outside e = let z : ◌≡◌ {A = ℕ} 0 1 = cc in absurd (omega arith)
+worse_good Empty Cuts e = let z : ◌≡◌ {A = ℕ} 0 1 = cc in absurd (omega arith)
+worse_good Empty Empty e = let z : ◌≡◌ {A = ℕ} 0 1 = cc in absurd (omega arith)
+worse_good Empty Good e = let z : ◌≡◌ {A = ℕ} 0 1 = cc in absurd (omega arith)
+worse_good Good b e = (refl, e)
 
 -- ---- names and properties
 
@@ -169,142 +169,142 @@ abbrev Next : {A : Type 0} → (A → Type 0) → ℕ → List ℕ → (ℕ → 
 Next Q m t next = (u : ℕ) → u ≤ length t → Reads Q (u + m) (length t) (next u)
 
 module _ (text t : List ℕ) where
-  members-by : (c : MemberCommand) (next : ℕ → Parsed (List Span)) → member_command t ≡ c → Next (Each (NameSpan text)) 0 t next
+  members_by_command : (c : MemberCommand) (next : ℕ → Parsed (List Span)) → member_command t ≡ c → Next (Each (NameSpan text)) 0 t next
       → Reads (Each (NameSpan text)) 0 (length t) (members_by text t c next)
   unfolding members_by Each
-  members-by members.Other next e f = reads {u = 0} tt (omega arith) (omega arith)
-  members-by members.Cut next e f = end
-  members-by (members.Member s) next e f =
-      named-reads _ (λ g. map-reads (s ∷◌) (λ l h. (g, h)) (less 0 (omega arith) (f 5 (member-fits t e))))
+  members_by_command members.Other next e f = reads {u = 0} tt (omega arith) (omega arith)
+  members_by_command members.Cut next e f = end
+  members_by_command (members.Member s) next e f =
+      named_reads _ (λ g. map_reads (s ∷◌) (λ l h. (g, h)) (less 0 (omega arith) (f 5 (member_fits t e))))
 
-  name-by : (c : NameCommand) (next : ℕ → Parsed (List Span)) → name_command t ≡ c → Next (Each (NameSpan text)) 0 t next
+  name_by_command : (c : NameCommand) (next : ℕ → Parsed (List Span)) → name_command t ≡ c → Next (Each (NameSpan text)) 0 t next
       → Reads (NameInOrder text) 1 (length t) (name_by text t c next)
   unfolding name_by NameInOrder
-  name-by names.Wrong next e f = here
-  name-by names.Cut next e f = end
-  name-by (names.Plain s) next e f = named-reads _ (λ g. reads {u = 5} g (omega arith) (name-fits t e))
-  name-by (names.Identifier s) next e f =
-      named-reads _ (λ g. map-reads (identifier s) (λ l h. (g, h)) (less 1 (omega arith) (f 5 (name-fits t e))))
-  name-by names.This next e f = map-reads this (λ l h. h) (less 1 (omega arith) (f 1 (name-fits t e)))
-  name-by (names.Namespaced s r) next e f = named-reads _ (λ g. reads {u = 9} (worse-good _ _ g) (omega arith) (name-fits t e))
+  name_by_command names.Wrong next e f = here
+  name_by_command names.Cut next e f = end
+  name_by_command (names.Plain s) next e f = named_reads _ (λ g. reads {u = 5} g (omega arith) (name_fits t e))
+  name_by_command (names.Identifier s) next e f =
+      named_reads _ (λ g. map_reads (identifier s) (λ l h. (g, h)) (less 1 (omega arith) (f 5 (name_fits t e))))
+  name_by_command names.This next e f = map_reads this (λ l h. h) (less 1 (omega arith) (f 1 (name_fits t e)))
+  name_by_command (names.Namespaced s r) next e f = named_reads _ (λ g. reads {u = 9} (worse_good _ _ g) (omega arith) (name_fits t e))
 
-  properties-by : (c : PropertyCommand) (next : ℕ → Parsed (List Property)) → property_command t ≡ c → Next (Each (PropertyInOrder text)) 1 t next
+  properties_by_command : (c : PropertyCommand) (next : ℕ → Parsed (List Property)) → property_command t ≡ c → Next (Each (PropertyInOrder text)) 1 t next
       → Reads (Each (PropertyInOrder text)) 1 (length t) (properties_by text t c next)
   unfolding properties_by Each PropertyInOrder
-  properties-by properties.Wrong next e f = here
-  properties-by properties.Cut next e f = end
-  properties-by properties.End next e f = reads {u = 1} tt (omega arith) (property-fits t e)
-  properties-by (properties.Property x) next e f =
-      map-reads (unnamed x ∷◌) (λ l h. (tt, h)) (less 1 (omega arith) (f 3 (property-fits t e)))
-  properties-by (properties.Named x s) next e f =
-      spanned-reads text s (λ i. map-reads (prop_name x s ∷◌) (λ l h. (i, h)) (less 1 (omega arith) (f 7 (property-fits t e))))
+  properties_by_command properties.Wrong next e f = here
+  properties_by_command properties.Cut next e f = end
+  properties_by_command properties.End next e f = reads {u = 1} tt (omega arith) (property_fits t e)
+  properties_by_command (properties.Property x) next e f =
+      map_reads (unnamed x ∷◌) (λ l h. (tt, h)) (less 1 (omega arith) (f 3 (property_fits t e)))
+  properties_by_command (properties.Named x s) next e f =
+      spanned_reads text s (λ i. map_reads (prop_name x s ∷◌) (λ l h. (i, h)) (less 1 (omega arith) (f 7 (property_fits t e))))
 
-pub members-reads : (f : ℕ) (text t : List ℕ) → Reads (Each (NameSpan text)) 0 (length t) (members_at f text t)
+pub members_reads : (f : ℕ) (text t : List ℕ) → Reads (Each (NameSpan text)) 0 (length t) (members_at f text t)
 unfolding members_at
-members-reads zero text t = here
-members-reads (suc f) text t = members-by text t _ _ refl (λ u h. behind t u h (members-reads f text (drop u t)))
+members_reads zero text t = here
+members_reads (suc f) text t = members_by_command text t _ _ refl (λ u h. behind t u h (members_reads f text (drop u t)))
 
-pub name-reads : (f : ℕ) (text t : List ℕ) → Reads (NameInOrder text) 1 (length t) (name_at f text t)
+pub name_reads : (f : ℕ) (text t : List ℕ) → Reads (NameInOrder text) 1 (length t) (name_at f text t)
 unfolding name_at
-name-reads f text t = name-by text t _ _ refl (λ u h. behind t u h (members-reads f text (drop u t)))
+name_reads f text t = name_by_command text t _ _ refl (λ u h. behind t u h (members_reads f text (drop u t)))
 
-pub properties-reads : (f : ℕ) (text t : List ℕ) → Reads (Each (PropertyInOrder text)) 1 (length t) (properties_at f text t)
+pub properties_reads : (f : ℕ) (text t : List ℕ) → Reads (Each (PropertyInOrder text)) 1 (length t) (properties_at f text t)
 unfolding properties_at
-properties-reads zero text t = here
-properties-reads (suc f) text t = properties-by text t _ _ refl (λ u h. behind t u h (properties-reads f text (drop u t)))
+properties_reads zero text t = here
+properties_reads (suc f) text t = properties_by_command text t _ _ refl (λ u h. behind t u h (properties_reads f text (drop u t)))
 
 -- ---- elements and fragments
 
 module _ (text t : List ℕ) where
-  attributes-by : (c : AttributeCommand) (value : ℕ → Parsed Value) (props : ℕ → Parsed (List Property)) (next : ℕ → Parsed Attributes)
+  attributes_by_command : (c : AttributeCommand) (value : ℕ → Parsed Value) (props : ℕ → Parsed (List Property)) (next : ℕ → Parsed Attributes)
       → attribute_command t ≡ c
       → Next (ValueInOrder text) 1 t value → Next (Each (PropertyInOrder text)) 1 t props → Next (AttributesInOrder text) 1 t next
       → Reads (AttributesInOrder text) 1 (length t) (attributes_by text t c value props next)
   unfolding attributes_by AttributesInOrder
-  attributes-by attributes.Wrong value props next e v ps f = here
-  attributes-by attributes.Cut value props next e v ps f = end
-  attributes-by attributes.End value props next e v ps f = reads {u = 1} tt (omega arith) (attribute-fits t e)
-  attributes-by (attributes.Plain s) value props next e v ps f =
-      named-reads _ (λ g. then-reads _ (v 5 (attribute-fits t e))
-      (λ x u q h k. map-reads (attribute s x) (λ a i. (g, q, i)) (less 1 (omega arith) (f u k))))
-  attributes-by (attributes.Namespaced s r) value props next e v ps f =
-      named-reads _ (λ g. then-reads _ (v 9 (attribute-fits t e))
-      (λ x u q h k. map-reads (namespaced_attribute s r x) (λ a i. ((worse-good _ _ g).0, (worse-good _ _ g).1, q, i)) (less 1 (omega arith) (f u k))))
-  attributes-by (attributes.Spread x) value props next e v ps f =
-      map-reads (spread x) (λ a i. i) (less 1 (omega arith) (f 3 (attribute-fits t e)))
-  attributes-by (attributes.Literal x) value props next e v ps f =
-      then-reads _ (ps 3 (attribute-fits t e)) (λ l u q h k. map-reads (literal x l) (λ a i. (q, i)) (less 1 (omega arith) (f u k)))
+  attributes_by_command attributes.Wrong value props next e v ps f = here
+  attributes_by_command attributes.Cut value props next e v ps f = end
+  attributes_by_command attributes.End value props next e v ps f = reads {u = 1} tt (omega arith) (attribute_fits t e)
+  attributes_by_command (attributes.Plain s) value props next e v ps f =
+      named_reads _ (λ g. then_reads _ (v 5 (attribute_fits t e))
+      (λ x u q h k. map_reads (attribute s x) (λ a i. (g, q, i)) (less 1 (omega arith) (f u k))))
+  attributes_by_command (attributes.Namespaced s r) value props next e v ps f =
+      named_reads _ (λ g. then_reads _ (v 9 (attribute_fits t e))
+      (λ x u q h k. map_reads (namespaced_attribute s r x) (λ a i. ((worse_good _ _ g).0, (worse_good _ _ g).1, q, i)) (less 1 (omega arith) (f u k))))
+  attributes_by_command (attributes.Spread x) value props next e v ps f =
+      map_reads (spread x) (λ a i. i) (less 1 (omega arith) (f 3 (attribute_fits t e)))
+  attributes_by_command (attributes.Literal x) value props next e v ps f =
+      then_reads _ (ps 3 (attribute_fits t e)) (λ l u q h k. map_reads (literal x l) (λ a i. (q, i)) (less 1 (omega arith) (f u k)))
 
   -- the rest of an element or a fragment that stands at the front of t
   abbrev Inner : (Place → Parsed Node) → Type 0
   Inner node = (p : Place) → Placed p → Reads (InOrder text) 0 (length (drop 9 t)) (node p)
 
-  value-by : (d : ℕ) (c : ValueCommand) (whole bare : Place → Parsed Node) → value_command t ≡ c → Inner whole → Inner bare
+  value_by_command : (d : ℕ) (c : ValueCommand) (whole bare : Place → Parsed Node) → value_command t ≡ c → Inner whole → Inner bare
       → Reads (ValueInOrder text) 1 (length t) (value_by text d t c whole bare)
   unfolding value_by ValueInOrder
-  value-by d values.Wrong whole bare e w b = here
-  value-by d values.Cut whole bare e w b = end
-  value-by d values.Absent whole bare e w b = reads {u = 1} tt (omega arith) (value-fits t e)
-  value-by d (values.Text s) whole bare e w b = lettered-reads text s (λ l. reads {u = 5} l (omega arith) (value-fits t e))
-  value-by d (values.Expression x) whole bare e w b = reads {u = 3} tt (omega arith) (value-fits t e)
-  value-by d values.Empty whole bare e w b = reads {u = 1} tt (omega arith) (value-fits t e)
-  value-by d (values.Element p) whole bare e w b =
-      map-reads node_value (λ n h. h) (less 1 (omega arith) (opened-reads d p t (value-fits t e) (w p)))
-  value-by d (values.Fragment p) whole bare e w b =
-      map-reads node_value (λ n h. h) (less 1 (omega arith) (opened-reads d p t (value-fits t e) (b p)))
+  value_by_command d values.Wrong whole bare e w b = here
+  value_by_command d values.Cut whole bare e w b = end
+  value_by_command d values.Absent whole bare e w b = reads {u = 1} tt (omega arith) (value_fits t e)
+  value_by_command d (values.Text s) whole bare e w b = lettered_reads text s (λ l. reads {u = 5} l (omega arith) (value_fits t e))
+  value_by_command d (values.Expression x) whole bare e w b = reads {u = 3} tt (omega arith) (value_fits t e)
+  value_by_command d values.Empty whole bare e w b = reads {u = 1} tt (omega arith) (value_fits t e)
+  value_by_command d (values.Element p) whole bare e w b =
+      map_reads node_value (λ n h. h) (less 1 (omega arith) (opened_reads d p t (value_fits t e) (w p)))
+  value_by_command d (values.Fragment p) whole bare e w b =
+      map_reads node_value (λ n h. h) (less 1 (omega arith) (opened_reads d p t (value_fits t e) (b p)))
 
-  children-by : (d : ℕ) (c : ChildCommand) (whole bare : Place → Parsed Node) (next : ℕ → Parsed Children) → child_command t ≡ c
+  children_by_command : (d : ℕ) (c : ChildCommand) (whole bare : Place → Parsed Node) (next : ℕ → Parsed Children) → child_command t ≡ c
       → Inner whole → Inner bare → Next (ChildrenInOrder text) 1 t next
       → Reads (ChildrenInOrder text) 1 (length t) (children_by text d t c whole bare next)
   unfolding children_by ChildrenInOrder
-  children-by d children.Wrong whole bare next e w b f = here
-  children-by d children.Cut whole bare next e w b f = end
-  children-by d children.End whole bare next e w b f = reads {u = 1} tt (omega arith) (child_fits t e)
-  children-by d (children.Text s) whole bare next e w b f =
-      lettered-reads text s (λ l. map-reads (text_child s) (λ k i. (l, i)) (less 1 (omega arith) (f 5 (child_fits t e))))
-  children-by d (children.Expression x) whole bare next e w b f =
-      map-reads (expression_child x) (λ k i. i) (less 1 (omega arith) (f 3 (child_fits t e)))
-  children-by d children.Empty whole bare next e w b f = map-reads empty_child (λ k i. i) (less 1 (omega arith) (f 1 (child_fits t e)))
-  children-by d (children.Spread x) whole bare next e w b f = map-reads (spread_child x) (λ k i. i) (less 1 (omega arith) (f 3 (child_fits t e)))
-  children-by d (children.Element p) whole bare next e w b f =
-      then-reads _ (opened-reads d p t (child_fits t e) (w p)) (λ n u q h k. map-reads (node_child n) (λ c i. (q, i)) (less 1 (omega arith) (f u k)))
-  children-by d (children.Fragment p) whole bare next e w b f =
-      then-reads _ (opened-reads d p t (child_fits t e) (b p)) (λ n u q h k. map-reads (node_child n) (λ c i. (q, i)) (less 1 (omega arith) (f u k)))
+  children_by_command d children.Wrong whole bare next e w b f = here
+  children_by_command d children.Cut whole bare next e w b f = end
+  children_by_command d children.End whole bare next e w b f = reads {u = 1} tt (omega arith) (child_fits t e)
+  children_by_command d (children.Text s) whole bare next e w b f =
+      lettered_reads text s (λ l. map_reads (text_child s) (λ k i. (l, i)) (less 1 (omega arith) (f 5 (child_fits t e))))
+  children_by_command d (children.Expression x) whole bare next e w b f =
+      map_reads (expression_child x) (λ k i. i) (less 1 (omega arith) (f 3 (child_fits t e)))
+  children_by_command d children.Empty whole bare next e w b f = map_reads empty_child (λ k i. i) (less 1 (omega arith) (f 1 (child_fits t e)))
+  children_by_command d (children.Spread x) whole bare next e w b f = map_reads (spread_child x) (λ k i. i) (less 1 (omega arith) (f 3 (child_fits t e)))
+  children_by_command d (children.Element p) whole bare next e w b f =
+      then_reads _ (opened_reads d p t (child_fits t e) (w p)) (λ n u q h k. map_reads (node_child n) (λ c i. (q, i)) (less 1 (omega arith) (f u k)))
+  children_by_command d (children.Fragment p) whole bare next e w b f =
+      then_reads _ (opened_reads d p t (child_fits t e) (b p)) (λ n u q h k. map_reads (node_child n) (λ c i. (q, i)) (less 1 (omega arith) (f u k)))
 
 mutual
   unfolding element_at fragment_at attributes_at value_at children_at InOrder
 
-  pub element-reads : (f : ℕ) (text : List ℕ) (d : ℕ) (p : Place) (t : List ℕ) → Placed p → Reads (InOrder text) 0 (length t) (element_at f text d p t)
-  element-reads zero text d p t o = here
-  element-reads (suc f) text d p t o =
-      then-reads _ (name-reads f text t)
-      (λ n u q h k. then-reads _ (behind t u k (attributes-reads f text (suc d) (drop u t)))
-      (λ a v r i j. map-reads (element p n a) (λ c s. (o, q, r, s)) (less 0 (omega arith) (behind t v j (children-reads f text (suc d) (drop v t))))))
+  pub element_reads : (f : ℕ) (text : List ℕ) (d : ℕ) (p : Place) (t : List ℕ) → Placed p → Reads (InOrder text) 0 (length t) (element_at f text d p t)
+  element_reads zero text d p t o = here
+  element_reads (suc f) text d p t o =
+      then_reads _ (name_reads f text t)
+      (λ n u q h k. then_reads _ (behind t u k (attributes_reads f text (suc d) (drop u t)))
+      (λ a v r i j. map_reads (element p n a) (λ c s. (o, q, r, s)) (less 0 (omega arith) (behind t v j (children_reads f text (suc d) (drop v t))))))
 
-  pub fragment-reads : (f : ℕ) (text : List ℕ) (d : ℕ) (p : Place) (t : List ℕ) → Placed p → Reads (InOrder text) 0 (length t) (fragment_at f text d p t)
-  fragment-reads zero text d p t o = here
-  fragment-reads (suc f) text d p t o = map-reads (fragment p) (λ c s. (o, s)) (less 0 (omega arith) (children-reads f text (suc d) t))
+  pub fragment_reads : (f : ℕ) (text : List ℕ) (d : ℕ) (p : Place) (t : List ℕ) → Placed p → Reads (InOrder text) 0 (length t) (fragment_at f text d p t)
+  fragment_reads zero text d p t o = here
+  fragment_reads (suc f) text d p t o = map_reads (fragment p) (λ c s. (o, s)) (less 0 (omega arith) (children_reads f text (suc d) t))
 
-  pub attributes-reads : (f : ℕ) (text : List ℕ) (d : ℕ) (t : List ℕ) → Reads (AttributesInOrder text) 1 (length t) (attributes_at f text d t)
-  attributes-reads zero text d t = here
-  attributes-reads (suc f) text d t =
-      attributes-by text t _ _ _ _ refl
-      (λ u h. behind t u h (value-reads f text d (drop u t)))
-      (λ u h. behind t u h (properties-reads f text (drop u t)))
-      (λ u h. behind t u h (attributes-reads f text d (drop u t)))
+  pub attributes_reads : (f : ℕ) (text : List ℕ) (d : ℕ) (t : List ℕ) → Reads (AttributesInOrder text) 1 (length t) (attributes_at f text d t)
+  attributes_reads zero text d t = here
+  attributes_reads (suc f) text d t =
+      attributes_by_command text t _ _ _ _ refl
+      (λ u h. behind t u h (value_reads f text d (drop u t)))
+      (λ u h. behind t u h (properties_reads f text (drop u t)))
+      (λ u h. behind t u h (attributes_reads f text d (drop u t)))
 
-  pub value-reads : (f : ℕ) (text : List ℕ) (d : ℕ) (t : List ℕ) → Reads (ValueInOrder text) 1 (length t) (value_at f text d t)
-  value-reads zero text d t = here
-  value-reads (suc f) text d t =
-      value-by text t d _ _ _ refl (λ p o. element-reads f text d p (drop 9 t) o) (λ p o. fragment-reads f text d p (drop 9 t) o)
+  pub value_reads : (f : ℕ) (text : List ℕ) (d : ℕ) (t : List ℕ) → Reads (ValueInOrder text) 1 (length t) (value_at f text d t)
+  value_reads zero text d t = here
+  value_reads (suc f) text d t =
+      value_by_command text t d _ _ _ refl (λ p o. element_reads f text d p (drop 9 t) o) (λ p o. fragment_reads f text d p (drop 9 t) o)
 
-  pub children-reads : (f : ℕ) (text : List ℕ) (d : ℕ) (t : List ℕ) → Reads (ChildrenInOrder text) 1 (length t) (children_at f text d t)
-  children-reads zero text d t = here
-  children-reads (suc f) text d t =
-      children-by text t d _ _ _ _ refl
-      (λ p o. element-reads f text d p (drop 9 t) o)
-      (λ p o. fragment-reads f text d p (drop 9 t) o)
-      (λ u h. behind t u h (children-reads f text d (drop u t)))
+  pub children_reads : (f : ℕ) (text : List ℕ) (d : ℕ) (t : List ℕ) → Reads (ChildrenInOrder text) 1 (length t) (children_at f text d t)
+  children_reads zero text d t = here
+  children_reads (suc f) text d t =
+      children_by_command text t d _ _ _ _ refl
+      (λ p o. element_reads f text d p (drop 9 t) o)
+      (λ p o. fragment_reads f text d p (drop 9 t) o)
+      (λ u h. behind t u h (children_reads f text d (drop u t)))
 
 -- ---- the root
 
@@ -315,47 +315,47 @@ abbrev RootInOrder : List ℕ → Root → Type 0
 RootInOrder text r = InOrder text r.node
 
 module _ (text t : List ℕ) where
-  scopes-by : (found : Bool) (c : ScopeCommand) (whole bare : Place → Parsed Node) (next : ℕ → Parsed Scoped) → scope_command found t ≡ c
+  scopes_by_command : (found : Bool) (c : ScopeCommand) (whole bare : Place → Parsed Node) (next : ℕ → Parsed Scoped) → scope_command found t ≡ c
       → Inner text t whole → Inner text t bare
       → ((k : ℕ) → 2 ≤ length t → Reads (ScopedInOrder text) (2 + 1) (length t) (next k))
       → Reads (ScopedInOrder text) 1 (length t) (scopes_by text t c whole bare next)
   unfolding scopes_by
-  scopes-by found scopes.Wrong whole bare next e w b f = here
-  scopes-by found scopes.Cut whole bare next e w b f = end
-  scopes-by found scopes.Bad whole bare next e w b f = here
-  scopes-by found (scopes.Scope k) whole bare next e w b f =
-      map-reads (in_scope k) (λ s h. h) (less 1 (omega arith) (f k (scope-fits found t e)))
-  scopes-by found (scopes.Element p) whole bare next e w b f =
-      map-reads unscoped (λ n h. h) (less 1 (omega arith) (opened-reads 0 p t (scope-fits found t e) (w p)))
-  scopes-by found (scopes.Fragment p) whole bare next e w b f =
-      map-reads unscoped (λ n h. h) (less 1 (omega arith) (opened-reads 0 p t (scope-fits found t e) (b p)))
+  scopes_by_command found scopes.Wrong whole bare next e w b f = here
+  scopes_by_command found scopes.Cut whole bare next e w b f = end
+  scopes_by_command found scopes.Bad whole bare next e w b f = here
+  scopes_by_command found (scopes.Scope k) whole bare next e w b f =
+      map_reads (in_scope k) (λ s h. h) (less 1 (omega arith) (f k (scope_fits found t e)))
+  scopes_by_command found (scopes.Element p) whole bare next e w b f =
+      map_reads unscoped (λ n h. h) (less 1 (omega arith) (opened_reads 0 p t (scope_fits found t e) (w p)))
+  scopes_by_command found (scopes.Fragment p) whole bare next e w b f =
+      map_reads unscoped (λ n h. h) (less 1 (omega arith) (opened_reads 0 p t (scope_fits found t e) (b p)))
 
-  root-by : (c : HeritageCommand) (rest : Parsed Scoped) → heritage_command t ≡ c
+  root_by_command : (c : HeritageCommand) (rest : Parsed Scoped) → heritage_command t ≡ c
       → (2 ≤ length t → Reads (ScopedInOrder text) (2 + 1) (length t) rest) → Reads (RootInOrder text) 1 (length t) (root_by t c rest)
   unfolding root_by
-  root-by heritages.Wrong rest e f = here
-  root-by heritages.Cut rest e f = end
-  root-by heritages.Bad rest e f = here
-  root-by (heritages.Heritage h) rest e f = map-reads _ (λ s i. i) (less 1 (omega arith) (f (heritage-fits t e)))
+  root_by_command heritages.Wrong rest e f = here
+  root_by_command heritages.Cut rest e f = end
+  root_by_command heritages.Bad rest e f = here
+  root_by_command (heritages.Heritage h) rest e f = map_reads _ (λ s i. i) (less 1 (omega arith) (f (heritage_fits t e)))
 
-pub scopes-reads : (f : ℕ) (text : List ℕ) (found : Bool) (t : List ℕ) → Reads (ScopedInOrder text) 1 (length t) (scopes_at f text found t)
+pub scopes_reads : (f : ℕ) (text : List ℕ) (found : Bool) (t : List ℕ) → Reads (ScopedInOrder text) 1 (length t) (scopes_at f text found t)
 unfolding scopes_at
-scopes-reads zero text found t = here
-scopes-reads (suc f) text found t =
-    scopes-by text t found _ _ _ _ refl
-    (λ p o. element-reads f text 0 p (drop 9 t) o)
-    (λ p o. fragment-reads f text 0 p (drop 9 t) o)
-    (λ k h. behind t 2 h (scopes-reads f text (found || is_function k) (drop 2 t)))
+scopes_reads zero text found t = here
+scopes_reads (suc f) text found t =
+    scopes_by_command text t found _ _ _ _ refl
+    (λ p o. element_reads f text 0 p (drop 9 t) o)
+    (λ p o. fragment_reads f text 0 p (drop 9 t) o)
+    (λ k h. behind t 2 h (scopes_reads f text (found || is_function k) (drop 2 t)))
 
 -- what is read before it is asked whether more follows
-pub open-root-reads : (text t : List ℕ)
+pub open_root_reads : (text t : List ℕ)
     → Reads (RootInOrder text) 1 (length t) (root_by t (heritage_command t) (from 2 (scopes_at (suc (length t)) text false (drop 2 t))))
-open-root-reads text t = root-by text t _ _ refl (λ h. behind t 2 h (scopes-reads (suc (length t)) text false (drop 2 t)))
+open_root_reads text t = root_by_command text t _ _ refl (λ h. behind t 2 h (scopes_reads (suc (length t)) text false (drop 2 t)))
 
 -- a root that was read is in order, and takes the whole tape
-pub root-in-order : (text t : List ℕ) (r : Root) (u : ℕ) → read_root text t ≡ done r u → InOrder text r.node × (u ≡ length t)
+pub root_in_order : (text t : List ℕ) (r : Root) (u : ℕ) → read_root text t ≡ done r u → InOrder text r.node × (u ≡ length t)
 unfolding read_root whole ◌then◌
-root-in-order text t r u e = go _ (open-root-reads text t) e
+root_in_order text t r u e = go _ (open_root_reads text t) e
   where
     last : (b : Bool) (s : Root) (v : ℕ) → ltb v (length t) ≡ b → v ≤ length t → InOrder text s.node
         → cond b (stop fault.Grammar v) (done s v) ≡ done r u → InOrder text r.node × (u ≡ length t)

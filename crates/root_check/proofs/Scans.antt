@@ -1,6 +1,6 @@
 -- What a scan reports of readings that are put together, from what it reports of their parts.
---     report-..             `from`, `map` and `then` of a reading
---     named-then, ..        what follows a command of n bytes whose spans or place are judged
+--     report_..             `from`, `map` and `then` of a reading
+--     named_then, ..        what follows a command of n bytes whose spans or place are judged
 -- Assumes nothing.
 use mathlib.Core.Path.{◌≡◌, refl}
 use mathlib.Core.Bool.{Bool, true, false, cond, ◌||◌}
@@ -26,64 +26,64 @@ use Rattle.root_check.specs.Checking.{report, taken, shifted, sequel, going, ste
 
 -- ---- scans
 
-pub shifted-zero : (s : Scan) → shifted 0 s ≡ s
+pub shifted_zero : (s : Scan) → shifted 0 s ≡ s
 unfolding shifted
-shifted-zero (scan.Good u) = simp zero-add
-shifted-zero (scan.Bad f p) = simp zero-add
+shifted_zero (scan.Good u) = simp zero-add
+shifted_zero (scan.Bad f p) = simp zero-add
 
-pub shifted-shifted : (u v : ℕ) (s : Scan) → shifted u (shifted v s) ≡ shifted (u + v) s
+pub shifted_shifted : (u v : ℕ) (s : Scan) → shifted u (shifted v s) ≡ shifted (u + v) s
 unfolding shifted
-shifted-shifted u v (scan.Good w) = simp add_assoc
-shifted-shifted u v (scan.Bad f p) = simp add_assoc
+shifted_shifted u v (scan.Good w) = simp add_assoc
+shifted_shifted u v (scan.Bad f p) = simp add_assoc
 
-pub stepped-going : (s : Scan) (k : ℕ → Scan) → stepped (going s) k ≡ sequel s k
+pub stepped_going : (s : Scan) (k : ℕ → Scan) → stepped (going s) k ≡ sequel s k
 unfolding stepped going sequel
-stepped-going (scan.Good u) k = refl
-stepped-going (scan.Bad f p) k = refl
+stepped_going (scan.Good u) k = refl
+stepped_going (scan.Bad f p) k = refl
 
-pub sequel-sequel : (s : Scan) (j k : ℕ → Scan) → sequel s (λ u. sequel (j u) k) ≡ sequel (sequel s j) k
+pub sequel_sequel : (s : Scan) (j k : ℕ → Scan) → sequel s (λ u. sequel (j u) k) ≡ sequel (sequel s j) k
 unfolding sequel
-sequel-sequel (scan.Good u) j k = refl
-sequel-sequel (scan.Bad f p) j k = refl
+sequel_sequel (scan.Good u) j k = refl
+sequel_sequel (scan.Bad f p) j k = refl
 
 -- ---- readings
 
-pub report-from : {A : Type 0} (u : ℕ) (p : Parsed A) → report (from u p) ≡ shifted u (report p)
+pub report_from : {A : Type 0} (u : ℕ) (p : Parsed A) → report (from u p) ≡ shifted u (report p)
 unfolding report from shifted
-report-from u (done a v) = refl
-report-from u (stop f q) = refl
+report_from u (done a v) = refl
+report_from u (stop f q) = refl
 
-pub report-map : {A B : Type 0} (g : A → B) (p : Parsed A) → report (map g p) ≡ report p
+pub report_map : {A B : Type 0} (g : A → B) (p : Parsed A) → report (map g p) ≡ report p
 unfolding report map ◌then◌
-report-map g (done a u) = refl
-report-map g (stop f q) = refl
+report_map g (done a u) = refl
+report_map g (stop f q) = refl
 
-pub report-then : {A B : Type 0} (p : Parsed A) (K : A → ℕ → Parsed B) (k : ℕ → Scan) → ((a : A) (u : ℕ) → report (K a u) ≡ k u)
+pub report_then : {A B : Type 0} (p : Parsed A) (K : A → ℕ → Parsed B) (k : ℕ → Scan) → ((a : A) (u : ℕ) → report (K a u) ≡ k u)
     → report (p then K) ≡ sequel (report p) k
 unfolding report ◌then◌ sequel
-report-then (done a u) K k h = h a u
-report-then (stop f q) K k h = refl
+report_then (done a u) K k h = h a u
+report_then (stop f q) K k h = refl
 
 -- ---- behind a command that is judged
 
 module _ {A : Type 0} (n : ℕ) (p : Parsed A) (k : ℕ → Scan) (h : report p ≡ k n) where
-  pub spanned-then : (b : Bounds) → report (spanned b p) ≡ sequel (report (spanned b (taken n))) k
+  pub spanned_then : (b : Bounds) → report (spanned b p) ≡ sequel (report (spanned b (taken n))) k
   unfolding report spanned sequel
-  spanned-then Outside = refl
-  spanned-then Cuts = refl
-  spanned-then Empty = h
-  spanned-then Good = h
+  spanned_then Outside = refl
+  spanned_then Cuts = refl
+  spanned_then Empty = h
+  spanned_then Good = h
 
-  pub named-then : (b : Bounds) → report (named b p) ≡ sequel (report (named b (taken n))) k
+  pub named_then : (b : Bounds) → report (named b p) ≡ sequel (report (named b (taken n))) k
   unfolding report named sequel
-  named-then Outside = refl
-  named-then Cuts = refl
-  named-then Empty = refl
-  named-then Good = h
+  named_then Outside = refl
+  named_then Cuts = refl
+  named_then Empty = refl
+  named_then Good = h
 
-  pub lettered-then : (text : List ℕ) (s : Span) → report (lettered text s p) ≡ sequel (report (lettered text s (taken n))) k
+  pub lettered_then : (text : List ℕ) (s : Span) → report (lettered text s p) ≡ sequel (report (lettered text s (taken n))) k
   unfolding report lettered spanned sequel
-  lettered-then text s = go (bounds_of text s) (has_reference (part_of text s))
+  lettered_then text s = go (bounds_of text s) (has_reference (part_of text s))
     where
       go : (b : Bounds) (a : Bool)
           → report (spanned b (cond a (stop fault.Reference 0) p)) ≡ sequel (report (spanned b (cond a (stop fault.Reference 0) (taken n)))) k
@@ -96,16 +96,16 @@ module _ {A : Type 0} (n : ℕ) (p : Parsed A) (k : ℕ → Scan) (h : report p 
 
 -- nothing but the command itself
 module _ {A : Type 0} (a : A) (n : ℕ) where
-  pub named-done : (b : Bounds) → report (named b (done a n)) ≡ report (named b (taken n))
+  pub named_done : (b : Bounds) → report (named b (done a n)) ≡ report (named b (taken n))
   unfolding report named
-  named-done Outside = refl
-  named-done Cuts = refl
-  named-done Empty = refl
-  named-done Good = refl
+  named_done Outside = refl
+  named_done Cuts = refl
+  named_done Empty = refl
+  named_done Good = refl
 
-  pub lettered-done : (text : List ℕ) (s : Span) → report (lettered text s (done a n)) ≡ report (lettered text s (taken n))
+  pub lettered_done : (text : List ℕ) (s : Span) → report (lettered text s (done a n)) ≡ report (lettered text s (taken n))
   unfolding report lettered spanned
-  lettered-done text s = go (bounds_of text s) (has_reference (part_of text s))
+  lettered_done text s = go (bounds_of text s) (has_reference (part_of text s))
     where
       go : (b : Bounds) (x : Bool)
           → report (spanned b (cond x (stop fault.Reference 0) (done a n))) ≡ report (spanned b (cond x (stop fault.Reference 0) (taken n)))
@@ -117,21 +117,21 @@ module _ {A : Type 0} (a : A) (n : ℕ) where
       go Good false = refl
 
 -- an element or a fragment is opened, and its rest stands behind nine bytes
-pub opened-then : {A : Type 0} (d : ℕ) (at : Place) (p : Parsed A) → report (opened d at p) ≡ sequel (report (opened d at (taken 0))) (λ u. shifted 9 (report p))
+pub opened_then : {A : Type 0} (d : ℕ) (at : Place) (p : Parsed A) → report (opened d at p) ≡ sequel (report (opened d at (taken 0))) (λ u. shifted 9 (report p))
 unfolding report opened sequel from
-opened-then d at p = go (leb 64 d) (eqb at.line 4294967295 || eqb at.column 4294967295)
+opened_then d at p = go (leb 64 d) (eqb at.line 4294967295 || eqb at.column 4294967295)
   where
     go : (b x : Bool)
         → report (cond b (stop fault.Depth 0) (cond x (stop fault.Position 0) (from 9 p)))
         ≡ sequel (report (cond b (stop fault.Depth 0) (cond x (stop fault.Position 0) (from 9 (taken 0))))) (λ u. shifted 9 (report p))
     go true x = refl
     go false true = refl
-    go false false = report-from 9 p
+    go false false = report_from 9 p
 
 -- its level is judged before its place
-pub opened-judged : (d : ℕ) (at : Place) → sequel (level d) (λ u. position at) ≡ report (opened d at (taken 0))
+pub opened_judged : (d : ℕ) (at : Place) → sequel (level d) (λ u. position at) ≡ report (opened d at (taken 0))
 unfolding report opened sequel from level position
-opened-judged d at = go (leb 64 d) (eqb at.line 4294967295 || eqb at.column 4294967295)
+opened_judged d at = go (leb 64 d) (eqb at.line 4294967295 || eqb at.column 4294967295)
   where
     go : (b x : Bool)
         → sequel (cond b (scan.Bad fault.Depth 0) (scan.Good 9)) (λ u. cond x (scan.Bad fault.Position 0) (scan.Good 9))
@@ -141,9 +141,9 @@ opened-judged d at = go (leb 64 d) (eqb at.line 4294967295 || eqb at.column 4294
     go false false = refl
 
 -- it is opened only below the 65th level
-pub opened-shallow : (d : ℕ) (at : Place) (u : ℕ) → report (opened d at (taken 0)) ≡ scan.Good u → d < 64
+pub opened_shallow : (d : ℕ) (at : Place) (u : ℕ) → report (opened d at (taken 0)) ≡ scan.Good u → d < 64
 unfolding report opened
-opened-shallow d at u e = go (leb 64 d) refl e
+opened_shallow d at u e = go (leb 64 d) refl e
   where
     go : (b : Bool) → leb 64 d ≡ b
         → report (cond b (stop fault.Depth 0) (cond (eqb at.line 4294967295 || eqb at.column 4294967295) (stop fault.Position 0) (from 9 (taken 0)))) ≡ scan.Good u
@@ -153,9 +153,9 @@ opened-shallow d at u e = go (leb 64 d) refl e
 
 -- a text's span was scanned, and references are looked for where nothing was wrong
 module _ (text : List ℕ) (s : Span) (n : ℕ) (r : Scan) (e : r ≡ report (spanned (bounds_of text s) (taken n))) where
-  pub lettered-refused : (f : Fault) (q : ℕ) → r ≡ scan.Bad f q → r ≡ report (lettered text s (taken n))
+  pub lettered_refused : (f : Fault) (q : ℕ) → r ≡ scan.Bad f q → r ≡ report (lettered text s (taken n))
   unfolding report lettered spanned
-  lettered-refused f q h = go (bounds_of text s) e
+  lettered_refused f q h = go (bounds_of text s) e
     where
       go : (b : Bounds) → r ≡ report (spanned b (taken n))
           → r ≡ report (spanned b (cond (has_reference (part_of text s)) (stop fault.Reference 0) (taken n)))
@@ -164,10 +164,10 @@ module _ (text : List ℕ) (s : Span) (n : ℕ) (r : Scan) (e : r ≡ report (sp
       go Empty e = let z : ◌≡◌ {A = ℕ} 0 1 = cc in absurd (omega arith)
       go Good e = let z : ◌≡◌ {A = ℕ} 0 1 = cc in absurd (omega arith)
 
-  pub lettered-searched : (u : ℕ) (x : Bool) → r ≡ scan.Good u → has_reference (part_of text s) ≡ x
+  pub lettered_searched : (u : ℕ) (x : Bool) → r ≡ scan.Good u → has_reference (part_of text s) ≡ x
       → report (cond x (stop fault.Reference 0) (taken n)) ≡ report (lettered text s (taken n))
   unfolding report lettered spanned
-  lettered-searched u x h q = rw q (go (bounds_of text s) e)
+  lettered_searched u x h q = rw q (go (bounds_of text s) e)
     where
       go : (b : Bounds) → r ≡ report (spanned b (taken n))
           → report (cond x (stop fault.Reference 0) (taken n)) ≡ report (spanned b (cond x (stop fault.Reference 0) (taken n)))

@@ -1,6 +1,6 @@
 -- The opening tape, command by command.
 --     Reads                  the whole tape gives what its rest gives, from what has been read; each event of the loop is a law from Reads to
---                            Reads (onward) or to the answer (at-end, at-fault)
+--                            Reads (onward) or to the answer (at_the_end, at_fault)
 -- Assumes nothing.
 use mathlib.Core.Path.{◌≡◌, refl, sym, ap, subst, ◌∙◌}
 use mathlib.Core.Bool.{Bool, true, false, cond, ◌&&◌}
@@ -28,10 +28,10 @@ use Rattle.definitions.specs.Judging.{Parsed, done, stop, from, spanned, Judged,
 use Rattle.definitions.specs.Comments.{with_comments}
 use Rattle.definitions.specs.Opening.{Opening, bare, with_pragma, with_pragma_frag, with_import_source, and_comment, option_by, options_from, read_opening}
 use Rattle.definitions.specs.Opening.{options_of, judge_options}
-use Rattle.definitions.proofs.Verdicts.{past-read, accepted-same}
-use Rattle.definitions.proofs.Openings.{opening-told, options-borne}
+use Rattle.definitions.proofs.Verdicts.{past_read, accepted_same}
+use Rattle.definitions.proofs.Openings.{opening_told, options_borne}
 use Rattle.comments.specs.Tapes.{comments_of}
-use Rattle.comments.proofs.Tapes.{comments-front}
+use Rattle.comments.proofs.Tapes.{comments_front}
 use Rattle.settings.specs.declared.opening.Next.{Next}
 use Rattle.settings.specs.declared.opening.Next.TheVariants as next
 use Rattle.settings.specs.declared.opening.OpeningRead.TheVariants as outcome
@@ -48,9 +48,9 @@ Front t (option.ImportSource s) = (5 ≤ length t) × (comments_of t ≡ comment
 Front t (option.Comment s) = (5 ≤ length t) × (comments_of t ≡ s ∷ comments_of (drop 5 t))
 
 -- with operands: cut off, or whole
-front-with : (b : ℕ) (t : List ℕ) (c : Span → OptionCommand) → Front (b ∷ t) option.Cut → (4 ≤ length t → Front (b ∷ t) (c (span_at t 0)))
+front_with : (b : ℕ) (t : List ℕ) (c : Span → OptionCommand) → Front (b ∷ t) option.Cut → (4 ≤ length t → Front (b ∷ t) (c (span_at t 0)))
     → Front (b ∷ t) (option_with c t)
-front-with b t c x f =
+front_with b t c x f =
     go (ltb (length t) 4) refl
   where
     go : (u : Bool) → ltb (length t) 4 ≡ u → Front (b ∷ t) (cond u option.Cut (c (span_at t 0)))
@@ -63,53 +63,53 @@ front last [] = refl
 front last (b ∷ t) = go (eqb b 0x60) refl (ltb last b && eqb b 0x62) (ltb last b && eqb b 0x63) (ltb last b && eqb b 0x64)
   where
     skipped : eqb b 0x60 ≡ false → 4 ≤ length t → (5 ≤ length (b ∷ t)) × (comments_of (b ∷ t) ≡ comments_of (drop 5 (b ∷ t)))
-    skipped e h = (omega arith, comments-front (b ∷ t) (omega arith) ∙ rw e)
+    skipped e h = (omega arith, comments_front (b ∷ t) (omega arith) ∙ rw e)
 
     go : (x : Bool) → eqb b 0x60 ≡ x → (y z u : Bool)
         → Front (b ∷ t)
         (cond x (option_with option.Comment t)
         (cond y (option_with option.Pragma t) (cond z (option_with option.PragmaFrag t) (cond u (option_with option.ImportSource t) option.Wrong))))
-    go true e y z u = front-with b t option.Comment (omega arith) (λ h. (omega arith, comments-front (b ∷ t) (omega arith) ∙ rw e))
-    go false e true z u = front-with b t option.Pragma (omega arith) (skipped e)
-    go false e false true u = front-with b t option.PragmaFrag (omega arith) (skipped e)
-    go false e false false true = front-with b t option.ImportSource (omega arith) (skipped e)
+    go true e y z u = front_with b t option.Comment (omega arith) (λ h. (omega arith, comments_front (b ∷ t) (omega arith) ∙ rw e))
+    go false e true z u = front_with b t option.Pragma (omega arith) (skipped e)
+    go false e false true u = front_with b t option.PragmaFrag (omega arith) (skipped e)
+    go false e false false true = front_with b t option.ImportSource (omega arith) (skipped e)
     go false e false false false = omega arith
 
 -- ---- a command with a span
-spanned-more : (b : Bounds) (l m : ℕ) (p q : Options) → spanned_by b l p ≡ next.More m q
+spanned_more : (b : Bounds) (l m : ℕ) (p q : Options) → spanned_by b l p ≡ next.More m q
     → (l ≡ m) × (p ≡ q) × ((x : Parsed Opening) → spanned b x ≡ x)
 unfolding spanned_by spanned
-spanned-more bounds.Outside l m p q e = let z : ◌≡◌ {A = ℕ} 0 1 = cc in absurd (omega arith)
-spanned-more bounds.Cuts l m p q e = let z : ◌≡◌ {A = ℕ} 0 1 = cc in absurd (omega arith)
-spanned-more bounds.Empty l m p q e = ((cc), (cc), λ x. refl)
-spanned-more bounds.Good l m p q e = ((cc), (cc), λ x. refl)
+spanned_more bounds.Outside l m p q e = let z : ◌≡◌ {A = ℕ} 0 1 = cc in absurd (omega arith)
+spanned_more bounds.Cuts l m p q e = let z : ◌≡◌ {A = ℕ} 0 1 = cc in absurd (omega arith)
+spanned_more bounds.Empty l m p q e = ((cc), (cc), λ x. refl)
+spanned_more bounds.Good l m p q e = ((cc), (cc), λ x. refl)
 
-spanned-stop : (b : Bounds) (l : ℕ) (p : Options) (f : Fault) (j : ℕ) → spanned_by b l p ≡ next.Stop f j
+spanned_stop : (b : Bounds) (l : ℕ) (p : Options) (f : Fault) (j : ℕ) → spanned_by b l p ≡ next.Stop f j
     → (j ≡ 0) × ((x : Parsed Opening) → spanned b x ≡ stop f j)
 unfolding spanned_by spanned
-spanned-stop bounds.Outside l p f j e = (let z : 0 ≡ j = cc in sym z, λ x. (cc))
-spanned-stop bounds.Cuts l p f j e = (let z : 0 ≡ j = cc in sym z, λ x. (cc))
-spanned-stop bounds.Empty l p f j e = let z : ◌≡◌ {A = ℕ} 0 1 = cc in absurd (omega arith)
-spanned-stop bounds.Good l p f j e = let z : ◌≡◌ {A = ℕ} 0 1 = cc in absurd (omega arith)
+spanned_stop bounds.Outside l p f j e = (let z : 0 ≡ j = cc in sym z, λ x. (cc))
+spanned_stop bounds.Cuts l p f j e = (let z : 0 ≡ j = cc in sym z, λ x. (cc))
+spanned_stop bounds.Empty l p f j e = let z : ◌≡◌ {A = ℕ} 0 1 = cc in absurd (omega arith)
+spanned_stop bounds.Good l p f j e = let z : ◌≡◌ {A = ℕ} 0 1 = cc in absurd (omega arith)
 
-spanned-end : (b : Bounds) (l : ℕ) (p : Options) → spanned_by b l p ≡ next.End → ⊥
+spanned_end : (b : Bounds) (l : ℕ) (p : Options) → spanned_by b l p ≡ next.End → ⊥
 unfolding spanned_by
-spanned-end bounds.Outside l p e = let z : ◌≡◌ {A = ℕ} 0 1 = cc in omega arith
-spanned-end bounds.Cuts l p e = let z : ◌≡◌ {A = ℕ} 0 1 = cc in omega arith
-spanned-end bounds.Empty l p e = let z : ◌≡◌ {A = ℕ} 0 1 = cc in omega arith
-spanned-end bounds.Good l p e = let z : ◌≡◌ {A = ℕ} 0 1 = cc in omega arith
+spanned_end bounds.Outside l p e = let z : ◌≡◌ {A = ℕ} 0 1 = cc in omega arith
+spanned_end bounds.Cuts l p e = let z : ◌≡◌ {A = ℕ} 0 1 = cc in omega arith
+spanned_end bounds.Empty l p e = let z : ◌≡◌ {A = ℕ} 0 1 = cc in omega arith
+spanned_end bounds.Good l p e = let z : ◌≡◌ {A = ℕ} 0 1 = cc in omega arith
 
 -- ---- a command whose options before it are those of the opening o
 module _ (text t : List ℕ) (o : Opening) where
-  stop-inside : (c : OptionCommand) (f : Fault) (j : ℕ) → next_by text t (options_before o) c ≡ next.Stop f j → j ≤ length t
+  stop_inside : (c : OptionCommand) (f : Fault) (j : ℕ) → next_by text t (options_before o) c ≡ next.Stop f j → j ≤ length t
   unfolding next_by
-  stop-inside option.End f j e = let z : ◌≡◌ {A = ℕ} 0 1 = cc in absurd (omega arith)
-  stop-inside option.Wrong f j e = let z : 0 ≡ j = cc in omega arith
-  stop-inside option.Cut f j e = let z : length t ≡ j = cc in omega arith
-  stop-inside (option.Pragma s) f j e = omega (arith, (spanned-stop (bounds_of text s) _ _ f j e).0)
-  stop-inside (option.PragmaFrag s) f j e = omega (arith, (spanned-stop (bounds_of text s) _ _ f j e).0)
-  stop-inside (option.ImportSource s) f j e = omega (arith, (spanned-stop (bounds_of text s) _ _ f j e).0)
-  stop-inside (option.Comment s) f j e = omega (arith, (spanned-stop (bounds_of text s) _ _ f j e).0)
+  stop_inside option.End f j e = let z : ◌≡◌ {A = ℕ} 0 1 = cc in absurd (omega arith)
+  stop_inside option.Wrong f j e = let z : 0 ≡ j = cc in omega arith
+  stop_inside option.Cut f j e = let z : length t ≡ j = cc in omega arith
+  stop_inside (option.Pragma s) f j e = omega (arith, (spanned_stop (bounds_of text s) _ _ f j e).0)
+  stop_inside (option.PragmaFrag s) f j e = omega (arith, (spanned_stop (bounds_of text s) _ _ f j e).0)
+  stop_inside (option.ImportSource s) f j e = omega (arith, (spanned_stop (bounds_of text s) _ _ f j e).0)
+  stop_inside (option.Comment s) f j e = omega (arith, (spanned_stop (bounds_of text s) _ _ f j e).0)
 
   stops : (last : ℕ) (k : ℕ → Opening → Parsed Opening) (c : OptionCommand) (f : Fault) (j : ℕ) → next_by text t (options_before o) c ≡ next.Stop f j
       → option_by text t last o c k ≡ stop f j
@@ -117,20 +117,20 @@ module _ (text t : List ℕ) (o : Opening) where
   stops last k option.End f j e = let z : ◌≡◌ {A = ℕ} 0 1 = cc in absurd (omega arith)
   stops last k option.Wrong f j e = cc
   stops last k option.Cut f j e = cc
-  stops last k (option.Pragma s) f j e = (spanned-stop (bounds_of text s) _ _ f j e).1 _
-  stops last k (option.PragmaFrag s) f j e = (spanned-stop (bounds_of text s) _ _ f j e).1 _
-  stops last k (option.ImportSource s) f j e = (spanned-stop (bounds_of text s) _ _ f j e).1 _
-  stops last k (option.Comment s) f j e = (spanned-stop (bounds_of text s) _ _ f j e).1 _
+  stops last k (option.Pragma s) f j e = (spanned_stop (bounds_of text s) _ _ f j e).1 _
+  stops last k (option.PragmaFrag s) f j e = (spanned_stop (bounds_of text s) _ _ f j e).1 _
+  stops last k (option.ImportSource s) f j e = (spanned_stop (bounds_of text s) _ _ f j e).1 _
+  stops last k (option.Comment s) f j e = (spanned_stop (bounds_of text s) _ _ f j e).1 _
 
   ends : (c : OptionCommand) → next_by text t (options_before o) c ≡ next.End → c ≡ option.End
   unfolding next_by
   ends option.End e = refl
   ends option.Wrong e = let z : ◌≡◌ {A = ℕ} 0 1 = cc in absurd (omega arith)
   ends option.Cut e = let z : ◌≡◌ {A = ℕ} 0 1 = cc in absurd (omega arith)
-  ends (option.Pragma s) e = absurd (spanned-end (bounds_of text s) _ _ e)
-  ends (option.PragmaFrag s) e = absurd (spanned-end (bounds_of text s) _ _ e)
-  ends (option.ImportSource s) e = absurd (spanned-end (bounds_of text s) _ _ e)
-  ends (option.Comment s) e = absurd (spanned-end (bounds_of text s) _ _ e)
+  ends (option.Pragma s) e = absurd (spanned_end (bounds_of text s) _ _ e)
+  ends (option.PragmaFrag s) e = absurd (spanned_end (bounds_of text s) _ _ e)
+  ends (option.ImportSource s) e = absurd (spanned_end (bounds_of text s) _ _ e)
+  ends (option.Comment s) e = absurd (spanned_end (bounds_of text s) _ _ e)
 
   -- the opening behind the command c, and that the definition reads on with it
   record Behind (c : OptionCommand) (l : ℕ) (q : Options) : Type 0 where
@@ -144,9 +144,9 @@ module _ (text t : List ℕ) (o : Opening) where
   module _ (c : OptionCommand) (s : Span) (m : ℕ) (p : Opening) (h : 5 ≤ length t)
       (by : (last : ℕ) (k : ℕ → Opening → Parsed Opening) → option_by text t last o c k ≡ spanned (bounds_of text s) (k m p))
       (more : o.comments ++ comments_of t ≡ p.comments ++ comments_of (drop 5 t)) where
-    behind-span : (l : ℕ) (q : Options) → spanned_by (bounds_of text s) m (options_before p) ≡ next.More l q → Behind c l q
-    behind-span l q e =
-        let r = spanned-more (bounds_of text s) m l (options_before p) q e in
+    behind_span : (l : ℕ) (q : Options) → spanned_by (bounds_of text s) m (options_before p) ≡ next.More l q → Behind c l q
+    behind_span l q e =
+        let r = spanned_more (bounds_of text s) m l (options_before p) q e in
         record {
           opening = p;
           inside = h;
@@ -161,13 +161,13 @@ module _ (text t : List ℕ) (o : Opening) where
   behind option.Wrong g l q e = let z : ◌≡◌ {A = ℕ} 0 1 = cc in absurd (omega arith)
   behind option.Cut g l q e = let z : ◌≡◌ {A = ℕ} 0 1 = cc in absurd (omega arith)
   behind (option.Pragma s) g l q e =
-      behind-span (option.Pragma s) s 0x62 (with_pragma o s) g.0 (λ last k. refl) (ap (◌++◌ o.comments) g.1) l q e
+      behind_span (option.Pragma s) s 0x62 (with_pragma o s) g.0 (λ last k. refl) (ap (◌++◌ o.comments) g.1) l q e
   behind (option.PragmaFrag s) g l q e =
-      behind-span (option.PragmaFrag s) s 0x63 (with_pragma_frag o s) g.0 (λ last k. refl) (ap (◌++◌ o.comments) g.1) l q e
+      behind_span (option.PragmaFrag s) s 0x63 (with_pragma_frag o s) g.0 (λ last k. refl) (ap (◌++◌ o.comments) g.1) l q e
   behind (option.ImportSource s) g l q e =
-      behind-span (option.ImportSource s) s 0x64 (with_import_source o s) g.0 (λ last k. refl) (ap (◌++◌ o.comments) g.1) l q e
+      behind_span (option.ImportSource s) s 0x64 (with_import_source o s) g.0 (λ last k. refl) (ap (◌++◌ o.comments) g.1) l q e
   behind (option.Comment s) g l q e =
-      behind-span (option.Comment s) s 0x64 (and_comment o s) g.0 (λ last k. refl)
+      behind_span (option.Comment s) s 0x64 (and_comment o s) g.0 (λ last k. refl)
       (ap (◌++◌ o.comments) g.1 ∙ sym (append_assoc o.comments (s ∷ []) (comments_of (drop 5 t)))) l q e
 
 -- ---- the tape behind the flags n has been read up to place i: p are the options so far, `last` the last option's byte
@@ -183,10 +183,10 @@ pub begin : (text tape : List ℕ) (n : ℕ) (p : Options) → p ≡ options_bef
 begin text tape n p e =
     record { turns = suc (length tape); opening = bare n; enough = omega arith; same = refl; before = e; comments = refl }
 
-from-from : (a b : ℕ) (p : Parsed Opening) → from a (from b p) ≡ from (a + b) p
+from_from : (a b : ℕ) (p : Parsed Opening) → from a (from b p) ≡ from (a + b) p
 unfolding from
-from-from a b (done o u) = let e : a + (b + u) ≡ a + b + u = omega arith in rw e
-from-from a b (stop f j) = let e : a + (b + j) ≡ a + b + j = omega arith in rw e
+from_from a b (done o u) = let e : a + (b + u) ≡ a + b + u = omega arith in rw e
+from_from a b (stop f j) = let e : a + (b + j) ≡ a + b + j = omega arith in rw e
 
 module _ (text tape : List ℕ) (n i last : ℕ) (p : Options) (h : i ≤ length tape) (r : Reads text tape n i last p) where
   -- the next turn
@@ -210,46 +210,46 @@ module _ (text tape : List ℕ) (n i last : ℕ) (p : Options) (h : i ≤ length
       go zero g e = absurd (omega arith)
       go (suc m) g e = (m, g, e)
 
-  by-opening : {x : Next} → next_by text (drop i tape) p (option_command last (drop i tape)) ≡ x
+  by_opening : {x : Next} → next_by text (drop i tape) p (option_command last (drop i tape)) ≡ x
       → next_by text (drop i tape) (options_before r.opening) (option_command last (drop i tape)) ≡ x
-  by-opening e = rw r.before at e
+  by_opening e = rw r.before at e
 
-  pub at-end : next_by text (drop i tape) p (option_command last (drop i tape)) ≡ next.End
+  pub at_the_end : next_by text (drop i tape) p (option_command last (drop i tape)) ≡ next.End
       → judged_options text (behind_flags text tape n) ≡ accepted (with_comments text p (comments_of (drop 3 tape)))
   unfolding judged_options from option_by read options_of Front comments_of options_before
-  at-end e =
-      let c : option_command last (drop i tape) ≡ option.End = ends text (drop i tape) r.opening (option_command last (drop i tape)) (by-opening e) in
+  at_the_end e =
+      let c : option_command last (drop i tape) ≡ option.End = ends text (drop i tape) r.opening (option_command last (drop i tape)) (by_opening e) in
       let empty : drop i tape ≡ [] = subst (Front (drop i tape)) c (front last (drop i tape)) in
       turn.2 ∙ rw (c, r.before, r.comments, empty, append-nil)
 
   module _ (f : Fault) (j : ℕ) (e : next_by text (drop i tape) p (option_command last (drop i tape)) ≡ next.Stop f j) where
-    pub fault-inside : i + j ≤ length tape
-    fault-inside =
-        omega (arith, stop-inside text (drop i tape) r.opening (option_command last (drop i tape)) f j (by-opening e), length-drop i tape)
+    pub fault_inside : i + j ≤ length tape
+    fault_inside =
+        omega (arith, stop_inside text (drop i tape) r.opening (option_command last (drop i tape)) f j (by_opening e), length-drop i tape)
 
-    pub at-fault : judged_options text (behind_flags text tape n) ≡ refused (refusal.Tape f (i + j))
+    pub at_fault : judged_options text (behind_flags text tape n) ≡ refused (refusal.Tape f (i + j))
     unfolding judged_options from read
-    at-fault = turn.2 ∙ rw (stops text (drop i tape) r.opening last _ (option_command last (drop i tape)) f j (by-opening e))
+    at_fault = turn.2 ∙ rw (stops text (drop i tape) r.opening last _ (option_command last (drop i tape)) f j (by_opening e))
 
   module _ (l : ℕ) (q : Options) (e : next_by text (drop i tape) p (option_command last (drop i tape)) ≡ next.More l q) where
-    next-behind : Behind text (drop i tape) r.opening (option_command last (drop i tape)) l q
-    next-behind = behind text (drop i tape) r.opening (option_command last (drop i tape)) (front last (drop i tape)) l q (by-opening e)
+    next_behind : Behind text (drop i tape) r.opening (option_command last (drop i tape)) l q
+    next_behind = behind text (drop i tape) r.opening (option_command last (drop i tape)) (front last (drop i tape)) l q (by_opening e)
 
-    pub command-inside : i + 5 ≤ length tape
-    command-inside = omega (arith, next-behind.inside, length-drop i tape)
+    pub command_inside : i + 5 ≤ length tape
+    command_inside = omega (arith, next_behind.inside, length-drop i tape)
 
     pub onward : Reads text tape n (i + 5) l q
     onward =
         record {
           turns = turn.0;
-          opening = next-behind.opening;
+          opening = next_behind.opening;
           enough = omega (arith, turn.1);
           same = turn.2
               ∙ ap (judged_options text)
-              (ap (from i) (next-behind.reads last _) ∙ from-from i 5 _
-              ∙ ap (λ (t : List ℕ). from (i + 5) (options_from turn.0 text l next-behind.opening t)) (drop-drop 5 i tape));
-          before = next-behind.before;
-          comments = r.comments ∙ next-behind.comments ∙ ap (λ (t : List ℕ). next-behind.opening.comments ++ comments_of t) (drop-drop 5 i tape);
+              (ap (from i) (next_behind.reads last _) ∙ from_from i 5 _
+              ∙ ap (λ (t : List ℕ). from (i + 5) (options_from turn.0 text l next_behind.opening t)) (drop-drop 5 i tape));
+          before = next_behind.before;
+          comments = r.comments ∙ next_behind.comments ∙ ap (λ (t : List ℕ). next_behind.opening.comments ++ comments_of t) (drop-drop 5 i tape);
         }
 
 -- ---- what the tape comes to
@@ -257,33 +257,33 @@ unfoldable on_judged : {A B : Type 0} → Judged A → (A → Judged B) → Judg
 on_judged (accepted a) k = k a
 on_judged (refused r) k = refused r
 
-read-on : {A B C : Type 0} (p : Parsed A) (f : A → B) (k : B → Judged C) (j : Judged B) → read p (λ a. accepted (f a)) ≡ j
+read_on : {A B C : Type 0} (p : Parsed A) (f : A → B) (k : B → Judged C) (j : Judged B) → read p (λ a. accepted (f a)) ≡ j
     → read p (λ a. k (f a)) ≡ on_judged j k
 unfolding read on_judged
-read-on (done a u) f k j e = ap (λ (x : Judged _). on_judged x k) e
-read-on (stop g i) f k j e = ap (λ (x : Judged _). on_judged x k) e
+read_on (done a u) f k j e = ap (λ (x : Judged _). on_judged x k) e
+read_on (stop g i) f k j e = ap (λ (x : Judged _). on_judged x k) e
 
 module _ (text tape : List ℕ) (room : ℕ) where
-  by-reading : (j : Judged Options) → judged_options text (read_opening text tape) ≡ j
+  by_reading : (j : Judged Options) → judged_options text (read_opening text tape) ≡ j
       → opened_tape text tape room ≡ on_judged j (λ (p : Options). judge_options text room p)
   unfolding judged_options opened_tape
-  by-reading j e = read-on (read_opening text tape) (options_of text) (λ (p : Options). judge_options text room p) j e
+  by_reading j e = read_on (read_opening text tape) (options_of text) (λ (p : Options). judge_options text room p) j e
 
-  pub tape-refused : (f : Fault) (i : ℕ) → judged_options text (read_opening text tape) ≡ judged_by text tape (outcome.Stop f i)
+  pub tape_refused : (f : Fault) (i : ℕ) → judged_options text (read_opening text tape) ≡ judged_by text tape (outcome.Stop f i)
       → opened_tape text tape room ≡ refused (refusal.Tape f i)
   unfolding judged_by on_judged
-  tape-refused f i e = by-reading (judged_by text tape (outcome.Stop f i)) e
+  tape_refused f i e = by_reading (judged_by text tape (outcome.Stop f i)) e
 
-  pub tape-read : (p : Options) → judged_options text (read_opening text tape) ≡ judged_by text tape (outcome.Done p)
+  pub tape_read : (p : Options) → judged_options text (read_opening text tape) ≡ judged_by text tape (outcome.Done p)
       → opened_tape text tape room ≡ judge_options text room (with_comments text p (comments_of (drop 3 tape)))
   unfolding judged_by on_judged
-  tape-read p e = by-reading (judged_by text tape (outcome.Done p)) e
+  tape_read p e = by_reading (judged_by text tape (outcome.Done p)) e
 
 -- the pragmas of options that were read are borne out
-pub tape-borne : (text tape : List ℕ) → first_ill text ≡ Nothing → (p : Options) → judged_options text (read_opening text tape) ≡ judged_by text tape (outcome.Done p)
+pub tape_borne : (text tape : List ℕ) → first_ill text ≡ Nothing → (p : Options) → judged_options text (read_opening text tape) ≡ judged_by text tape (outcome.Done p)
     → Borne text (with_comments text p (comments_of (drop 3 tape)))
 unfolding judged_options judged_by
-tape-borne text tape good p e =
-    let d = past-read (read_opening text tape) (λ (o : Opening). accepted (options_of text o)) _ e in
-    let b = options-borne text good d.0 (opening-told text d.0 tape d.1 d.2) in
-    subst (Borne text) (accepted-same _ _ d.3) (record { pragma = b.pair-pragma; frag = b.pair-frag })
+tape_borne text tape good p e =
+    let d = past_read (read_opening text tape) (λ (o : Opening). accepted (options_of text o)) _ e in
+    let b = options_borne text good d.0 (opening_told text d.0 tape d.1 d.2) in
+    subst (Borne text) (accepted_same _ _ d.3) (record { pragma = b.pair_pragma; frag = b.pair_frag })

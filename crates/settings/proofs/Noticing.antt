@@ -1,7 +1,7 @@
 -- The notices of an opening, as they are counted and written.
---     spanned-under     the part of a pragma that fails is a span
---     wrote-part        the notice of such a part, written
---     found-under       a search for a byte over 7F under the options' mode
+--     spanned_under     the part of a pragma that fails is a span
+--     wrote_part        the notice of such a part, written
+--     found_under       a search for a byte over 7F under the options' mode
 --     unfit, fit        an opening whose notices have no room, and one whose notices were written
 -- Assumes nothing.
 use mathlib.Core.Path.{◌≡◌, refl, sym, ap, ◌∙◌}
@@ -15,7 +15,7 @@ use Rattle.text.specs.declared.bytes.Found.{Found}
 use Rattle.tape.specs.declared.refusal.Refusal.TheVariants as refusal
 use Rattle.tape.specs.Targets.{Wrote}
 use Rattle.tape.specs.Numbers.{span_bytes}
-use Rattle.tape.proofs.Targets.{sets-room, wrote_as, wrote_then}
+use Rattle.tape.proofs.Targets.{sets_room, wrote_as, wrote_then}
 use Rattle.definitions.specs.declared.options.Mode.{Mode}
 use Rattle.definitions.specs.declared.options.Optional.{Optional}
 use Rattle.definitions.specs.declared.options.Options.{Options}
@@ -28,28 +28,28 @@ use Rattle.definitions.specs.Calls.{notice_bytes_of, notice_bytes}
 use Rattle.definitions.specs.Opening.{mode_of, pragma_under, settings_with, settings_of, pragma_notice, opening_notices, opening_bytes, if_classic, notices_fitted}
 use Rattle.definitions.specs.States.{borne_out}
 use Rattle.definitions.specs.Entries.{laid, no_job, opened_by}
-use Rattle.definitions.proofs.OpeningNotices.{notice-append, under-within}
+use Rattle.definitions.proofs.OpeningNotices.{notice_append, under_within}
 use Rattle.settings.specs.Tapes.{state_with, Spanned, Opened}
 
-pub spanned-under : (mode : Mode) (text : List ℕ) (p : Optional) {r : PragmaRead} → length text ≤ 65535 → borne_out text p ≡ true → r ≡ pragma_under mode text p
+pub spanned_under : (mode : Mode) (text : List ℕ) (p : Optional) {r : PragmaRead} → length text ≤ 65535 → borne_out text p ≡ true → r ≡ pragma_under mode text p
     → Spanned r
 unfolding Spanned
-spanned-under mode text p {r} h b e = go r e
+spanned_under mode text p {r} h b e = go r e
   where
     go : (x : PragmaRead) → x ≡ pragma_under mode text p → Spanned x
     go pragma.Absent e = omega arith
     go (pragma.Valid f) e = omega arith
-    go (pragma.Invalid i n) e = omega (arith, under-within mode text p b i n (sym e))
+    go (pragma.Invalid i n) e = omega (arith, under_within mode text p b i n (sym e))
 
-pub wrote-part : (i n : ℕ) {o o₁ o₂ : List ℕ} {at r r₂ : ℕ} → length o ≤ 2 ^ 63 → Wrote o o₁ at r (0xc2 ∷ [])
+pub wrote_part : (i n : ℕ) {o o₁ o₂ : List ℕ} {at r r₂ : ℕ} → length o ≤ 2 ^ 63 → Wrote o o₁ at r (0xc2 ∷ [])
     → Wrote o₁ o₂ r r₂ (span_bytes (record { start = i; len = n }))
     → Wrote o o₂ at r₂ (notice_bytes (pragma_notice (pragma.Invalid i n)))
 unfolding pragma_notice notice_bytes notice_bytes_of
-wrote-part i n short w v = wrote_as (sym (append-nil (0xc2 ∷ span_bytes (record { start = i; len = n })))) (wrote_then short w v)
+wrote_part i n short w v = wrote_as (sym (append-nil (0xc2 ∷ span_bytes (record { start = i; len = n })))) (wrote_then short w v)
 
 -- a search under the options' mode that came to x
-pub found-under : {m k : Mode} {f x : Found} (g : Found) → m ≡ k → f ≡ if_classic m g → f ≡ x → if_classic k g ≡ x
-found-under g hm e h = sym (e ∙ ap (λ (n : Mode). if_classic n g) hm) ∙ h
+pub found_under : {m k : Mode} {f x : Found} (g : Found) → m ≡ k → f ≡ if_classic m g → f ≡ x → if_classic k g ≡ x
+found_under g hm e h = sym (e ∙ ap (λ (n : Mode). if_classic n g) hm) ∙ h
 
 -- both pragmas as they were read under the options' mode
 module _ (text : List ℕ) (o : Options) (notices : List ℕ) {m : Mode} {p f : PragmaRead} (hm : m ≡ mode_of o.flags) (hp : p ≡ pragma_under m text o.pragma)
@@ -57,19 +57,19 @@ module _ (text : List ℕ) (o : Options) (notices : List ℕ) {m : Mode} {p f : 
   under : (x : Optional) {r : PragmaRead} → r ≡ pragma_under m text x → r ≡ pragma_under (mode_of o.flags) text x
   under x e = e ∙ ap (λ (k : Mode). pragma_under k text x) hm
 
-  settings-are : settings_with o p f ≡ settings_of text o
+  settings_are : settings_with o p f ≡ settings_of text o
   unfolding settings_of
-  settings-are = λ ι. settings_with o (under o.pragma hp ι) (under o.pragma_frag hf ι)
+  settings_are = λ ι. settings_with o (under o.pragma hp ι) (under o.pragma_frag hf ι)
 
-  bytes-are : opening_bytes text (settings_of text o) ≡ notice_bytes (pragma_notice p) ++ notice_bytes (pragma_notice f)
+  bytes_are : opening_bytes text (settings_of text o) ≡ notice_bytes (pragma_notice p) ++ notice_bytes (pragma_notice f)
   unfolding opening_notices settings_of
-  bytes-are =
+  bytes_are =
       sym (λ ι. notice_bytes (pragma_notice (under o.pragma hp ι) ++ pragma_notice (under o.pragma_frag hf ι)))
-      ∙ notice-append (pragma_notice p) (pragma_notice f)
+      ∙ notice_append (pragma_notice p) (pragma_notice f)
 
-  module _ {a b : ℕ} (size : a ≡ length (notice_bytes (pragma_notice p))) (size-frag : b ≡ length (notice_bytes (pragma_notice f))) where
+  module _ {a b : ℕ} (size : a ≡ length (notice_bytes (pragma_notice p))) (size_frag : b ≡ length (notice_bytes (pragma_notice f))) where
     size_is : length (opening_bytes text (settings_of text o)) ≡ a + b
-    size_is = ap length bytes-are ∙ length-append (notice_bytes (pragma_notice p)) (notice_bytes (pragma_notice f)) ∙ rw (size, size-frag)
+    size_is = ap length bytes_are ∙ length-append (notice_bytes (pragma_notice p)) (notice_bytes (pragma_notice f)) ∙ rw (size, size_frag)
 
     pub unfit : {x : Stepped} → length notices < a + b → x ≡ record { answer = answer.Refused (refusal.NoticeSpace (a + b)); state = no_job }
         → Opened (opened_by text notices (notices_fitted text (length notices) (settings_of text o))) x notices
@@ -83,10 +83,10 @@ module _ (text : List ℕ) (o : Options) (notices : List ℕ) {m : Mode} {p f : 
     unfolding notices_fitted refuse opened_by laid
     fit {o₂ = o₂} short h w v e =
         let bs = notice_bytes (pragma_notice p) ++ notice_bytes (pragma_notice f) in
-        let n : 0 + length bs ≤ length notices = omega (arith, ap length bytes-are, size_is) in
-        let t : o₂ ≡ laid 0 bs notices = (wrote_then short w v).holds ∙ sets-room notices 0 bs n in
+        let n : 0 + length bs ≤ length notices = omega (arith, ap length bytes_are, size_is) in
+        let t : o₂ ≡ laid 0 bs notices = (wrote_then short w v).holds ∙ sets_room notices 0 bs n in
         rw (le-ltb (length notices) (length (opening_bytes text (settings_of text o))) (omega (arith, size_is)))
         (record {
-          answered = e ∙ λ ι. record { answer = answer.Accepted; state = state_with (settings-are ι) 0 (sym size_is ι) };
-          noticed = t ∙ ap (λ (l : List ℕ). laid 0 l notices) (sym bytes-are);
+          answered = e ∙ λ ι. record { answer = answer.Accepted; state = state_with (settings_are ι) 0 (sym size_is ι) };
+          noticed = t ∙ ap (λ (l : List ℕ). laid 0 l notices) (sym bytes_are);
         })

@@ -15,9 +15,8 @@ use definitions::options::{Flags, Form, Mode, Optional, PragmaRoot, Settings};
 use definitions::state::Answer;
 use files::{print_byte, print_decimal, read_full};
 use settings::opening::open_job;
-use std::alloc::AllocError;
+use std::io;
 use std::io::{Result, Write};
-use std::{io, result};
 use tape::refusal::{figure, number};
 use text::spans::part;
 
@@ -537,14 +536,11 @@ fn run(out: &mut impl Write, input: &[u8], text: &mut [u8], tape: &mut [u8]) -> 
     run_pragmas(out, text, tape)
 }
 
-fn main(rt: HostRuntime) -> result::Result<(), AllocError> {
-    let alloc = rt.alloc();
-    let mut buffer = vec![in alloc; 0u8; 65536]?;
-    let input: &mut [u8] = &mut buffer;
-    let n = read_full(&mut rt.reader(), input);
-    let mut text = vec![in alloc; 0u8; 65536]?;
-    let mut tape = vec![in alloc; 0u8; 4096]?;
+fn main(rt: HostRuntime) {
+    let mut input = [0u8; 65536];
+    let n = read_full(&mut rt.reader(), &mut input);
+    let mut text = [0u8; 65536];
+    let mut tape = [0u8; 4096];
     // a test whose output is not taken has failed by what is missing there
     let _ = run(&mut io::writer(&rt), &input[0..n], &mut text, &mut tape);
-    Ok(())
 }

@@ -21,7 +21,7 @@ use Rattle.commands.specs.declared.root.ChildCommand.{ChildCommand}
 use Rattle.commands.specs.declared.root.ChildCommand.TheVariants as child
 use Rattle.tape.specs.Numbers.{u16_at}
 use Rattle.size_bound.specs.SizeBound.{text_length, size_bound}
-use Rattle.size_bound.proofs.Passing.{bound-front}
+use Rattle.size_bound.proofs.Passing.{bound_front}
 
 -- n bytes in front, with a text of l bytes, and the bound of what is behind them are within the bound of t
 abbrev pub Fronted : List ℕ → ℕ → ℕ → Type 0
@@ -45,7 +45,7 @@ nothing : (t : List ℕ) → Fronted t 0 0
 nothing t = omega arith
 
 front : (b k n : ℕ) (t : List ℕ) → command_size k - 1 ≡ n → b ≡ k → n ≤ length t → Fronted (b ∷ t) (suc n) 0
-front b k n t f e h = omega (arith, bound-front b k n t e f h)
+front b k n t f e h = omega (arith, bound_front b k n t e f h)
 
 test : {C : Type 0} (P : C → Type 0) (b k : ℕ) {x y : C} → (b ≡ k → P x) → P y → P (cond (eqb b k) x y)
 test P b k {x} {y} p q = go (eqb b k) refl
@@ -55,9 +55,9 @@ test P b k {x} {y} p q = go (eqb b k) refl
     go false e = q
 
 -- a test that counts only where something has come
-test-found : {C : Type 0} (P : C → Type 0) (found : Bool) (b k : ℕ) {x y : C} → (b ≡ k → P x) → P y → P (cond (found && eqb b k) x y)
-test-found P true b k p q = test P b k p q
-test-found P false b k p q = q
+test_found : {C : Type 0} (P : C → Type 0) (found : Bool) (b k : ℕ) {x y : C} → (b ≡ k → P x) → P y → P (cond (found && eqb b k) x y)
+test_found P true b k p q = test P b k p q
+test_found P false b k p q = q
 
 choose : {C : Type 0} (P : C → Type 0) (b : Bool) {x y : C} → P x → P y → P (cond b x y)
 choose P true p q = p
@@ -72,50 +72,50 @@ with_operands P n t {cut} {whole} p q = go (ltb (length t) n) refl
 
 -- ---- each place
 
-pub heritage-front : (t : List ℕ) → Fronted t (heritage_size (heritage_command t)) 0
+pub heritage_front : (t : List ℕ) → Fronted t (heritage_size (heritage_command t)) 0
 unfolding heritage_command command_size size_in root_commands
-heritage-front [] = nothing []
-heritage-front (b ∷ []) =
+heritage_front [] = nothing []
+heritage_front (b ∷ []) =
     let P : HeritageCommand → Type 0 = λ c. Fronted (b ∷ []) (heritage_size c) 0 in
     choose P (eqb b 0x01) (nothing _) (nothing _)
-heritage-front (b ∷ k ∷ t) =
+heritage_front (b ∷ k ∷ t) =
     let P : HeritageCommand → Type 0 = λ c. Fronted (b ∷ k ∷ t) (heritage_size c) 0 in
     test P b 0x01 (λ e. choose P (leb k 2) (front b 0x01 1 (k ∷ t) refl e (omega arith)) (nothing _)) (nothing _)
 
-pub scope-front : (found : Bool) (t : List ℕ) → Fronted t (scope_size (scope_command found t)) 0
+pub scope_front : (found : Bool) (t : List ℕ) → Fronted t (scope_size (scope_command found t)) 0
 unfolding scope_command command_size size_in root_commands
-scope-front found [] = nothing []
-scope-front found (b ∷ t) =
+scope_front found [] = nothing []
+scope_front found (b ∷ t) =
     let P : ScopeCommand → Type 0 = λ c. Fronted (b ∷ t) (scope_size c) 0 in
     test P b 0x02 (λ e. kind t e)
-    (test-found P found b 0x10 (λ e. with_operands P 8 t (nothing _) (λ h. front b 0x10 8 t refl e h))
-    (test-found P found b 0x11 (λ e. with_operands P 8 t (nothing _) (λ h. front b 0x11 8 t refl e h)) (nothing _)))
+    (test_found P found b 0x10 (λ e. with_operands P 8 t (nothing _) (λ h. front b 0x10 8 t refl e h))
+    (test_found P found b 0x11 (λ e. with_operands P 8 t (nothing _) (λ h. front b 0x11 8 t refl e h)) (nothing _)))
   where
     kind : (t : List ℕ) → b ≡ 0x02 → Fronted (b ∷ t) (scope_size (scope_with t)) 0
     kind [] e = nothing _
     kind (k ∷ t) e = choose (λ (c : ScopeCommand). Fronted (b ∷ k ∷ t) (scope_size c) 0) (leb k 3) (front b 0x02 1 (k ∷ t) refl e (omega arith)) (nothing _)
 
-pub name-front : (t : List ℕ) → Fronted t (name_size (name_command t)) 0
+pub name_front : (t : List ℕ) → Fronted t (name_size (name_command t)) 0
 unfolding name_command command_size size_in root_commands
-name-front [] = nothing []
-name-front (b ∷ t) =
+name_front [] = nothing []
+name_front (b ∷ t) =
     let P : NameCommand → Type 0 = λ c. Fronted (b ∷ t) (name_size c) 0 in
     test P b 0x20 (λ e. with_operands P 4 t (nothing _) (λ h. front b 0x20 4 t refl e h))
     (test P b 0x21 (λ e. with_operands P 4 t (nothing _) (λ h. front b 0x21 4 t refl e h))
     (test P b 0x22 (λ e. front b 0x22 0 t refl e (omega arith))
     (test P b 0x23 (λ e. with_operands P 8 t (nothing _) (λ h. front b 0x23 8 t refl e h)) (nothing _))))
 
-pub member-front : (t : List ℕ) → Fronted t (member_size (member_command t)) 0
+pub member_front : (t : List ℕ) → Fronted t (member_size (member_command t)) 0
 unfolding member_command command_size size_in root_commands
-member-front [] = nothing []
-member-front (b ∷ t) =
+member_front [] = nothing []
+member_front (b ∷ t) =
     let P : MemberCommand → Type 0 = λ c. Fronted (b ∷ t) (member_size c) 0 in
     test P b 0x25 (λ e. with_operands P 4 t (nothing _) (λ h. front b 0x25 4 t refl e h)) (nothing _)
 
-pub attribute-front : (t : List ℕ) → Fronted t (attribute_size (attribute_command t)) 0
+pub attribute_front : (t : List ℕ) → Fronted t (attribute_size (attribute_command t)) 0
 unfolding attribute_command command_size size_in root_commands
-attribute-front [] = nothing []
-attribute-front (b ∷ t) =
+attribute_front [] = nothing []
+attribute_front (b ∷ t) =
     let P : AttributeCommand → Type 0 = λ c. Fronted (b ∷ t) (attribute_size c) 0 in
     test P b 0x30 (λ e. with_operands P 4 t (nothing _) (λ h. front b 0x30 4 t refl e h))
     (test P b 0x31 (λ e. with_operands P 8 t (nothing _) (λ h. front b 0x31 8 t refl e h))
@@ -123,19 +123,19 @@ attribute-front (b ∷ t) =
     (test P b 0x33 (λ e. with_operands P 2 t (nothing _) (λ h. front b 0x33 2 t refl e h))
     (test P b 0x1e (λ e. front b 0x1e 0 t refl e (omega arith)) (nothing _)))))
 
-pub property-front : (t : List ℕ) → Fronted t (property_size (property_command t)) 0
+pub property_front : (t : List ℕ) → Fronted t (property_size (property_command t)) 0
 unfolding property_command command_size size_in root_commands
-property-front [] = nothing []
-property-front (b ∷ t) =
+property_front [] = nothing []
+property_front (b ∷ t) =
     let P : PropertyCommand → Type 0 = λ c. Fronted (b ∷ t) (property_size c) 0 in
     test P b 0x34 (λ e. with_operands P 2 t (nothing _) (λ h. front b 0x34 2 t refl e h))
     (test P b 0x36 (λ e. with_operands P 6 t (nothing _) (λ h. front b 0x36 6 t refl e h))
     (test P b 0x35 (λ e. front b 0x35 0 t refl e (omega arith)) (nothing _)))
 
-pub value-front : (t : List ℕ) → Fronted t (value_size (value_command t)) 0
+pub value_front : (t : List ℕ) → Fronted t (value_size (value_command t)) 0
 unfolding value_command command_size size_in root_commands
-value-front [] = nothing []
-value-front (b ∷ t) =
+value_front [] = nothing []
+value_front (b ∷ t) =
     let P : ValueCommand → Type 0 = λ c. Fronted (b ∷ t) (value_size c) 0 in
     test P b 0x40 (λ e. front b 0x40 0 t refl e (omega arith))
     (test P b 0x41 (λ e. with_operands P 4 t (nothing _) (λ h. front b 0x41 4 t refl e h))
@@ -145,16 +145,16 @@ value-front (b ∷ t) =
     (test P b 0x11 (λ e. with_operands P 8 t (nothing _) (λ h. front b 0x11 8 t refl e h)) (nothing _))))))
 
 -- a text that is whole tells its length
-text-length : (b : ℕ) (t : List ℕ) → b ≡ 0x50 → 4 ≤ length t → text_length (b ∷ t) ≡ u16_at t 2
+text_length_read : (b : ℕ) (t : List ℕ) → b ≡ 0x50 → 4 ≤ length t → text_length (b ∷ t) ≡ u16_at t 2
 unfolding text_length
-text-length b t e h = rw (eq-eqb b 0x50 e, le-ltb (length t) 4 h) refl
+text_length_read b t e h = rw (eq-eqb b 0x50 e, le-ltb (length t) 4 h) refl
 
-pub child-front : (t : List ℕ) → Fronted t (child_size (child_command t)) (child_text (child_command t))
+pub child_front : (t : List ℕ) → Fronted t (child_size (child_command t)) (child_text (child_command t))
 unfolding child_command command_size size_in root_commands
-child-front [] = nothing []
-child-front (b ∷ t) =
+child_front [] = nothing []
+child_front (b ∷ t) =
     let P : ChildCommand → Type 0 = λ c. Fronted (b ∷ t) (child_size c) (child_text c) in
-    test P b 0x50 (λ e. with_operands P 4 t (nothing _) (λ h. omega (arith, bound-front b 0x50 4 t e refl h, text-length b t e h)))
+    test P b 0x50 (λ e. with_operands P 4 t (nothing _) (λ h. omega (arith, bound_front b 0x50 4 t e refl h, text_length_read b t e h)))
     (test P b 0x42 (λ e. with_operands P 2 t (nothing _) (λ h. front b 0x42 2 t refl e h))
     (test P b 0x43 (λ e. front b 0x43 0 t refl e (omega arith))
     (test P b 0x51 (λ e. with_operands P 2 t (nothing _) (λ h. front b 0x51 2 t refl e h))

@@ -1,9 +1,9 @@
 -- The pass finds every text of a root that is read.
 --     Costs               a reading's value is within the bound of the bytes that it took
---     name-costs, ..      of each reader
---     calls-within        so a root's calls are within the bound of its tape
---     told-bound, no_bound  the bound that is told, by the tape's length
---     bound-enough         and it holds them
+--     name_costs, ..      of each reader
+--     calls_within        so a root's calls are within the bound of its tape
+--     told_bound, no_bound  the bound that is told, by the tape's length
+--     bound_enough         and it holds them
 -- Assumes nothing.
 use mathlib.Core.Path.{◌≡◌, refl, subst}
 use mathlib.Core.Bool.{Bool, true, false, cond, ◌||◌}
@@ -47,11 +47,11 @@ use Rattle.definitions.specs.Reading.{element_at, fragment_at, attributes_at, va
 use Rattle.definitions.specs.Reading.{scopes_at, root_by, whole, read_root}
 use Rattle.definitions.specs.Lowering.{lower_root, can_add_self}
 use Rattle.definitions.specs.Entries.{lowered_after}
-use Rattle.definitions.proofs.Weights.{calls-weigh, node-weighs-by-texts, size_name, size_properties, size_node, size_attributes, size_value, size_children}
+use Rattle.definitions.proofs.Weights.{calls_weigh, node_weighs_by_texts, size_name, size_properties, size_node, size_attributes, size_value, size_children}
 use Rattle.definitions.proofs.Weights.{priced_node, priced_attributes, priced_value, priced_children}
-use Rattle.definitions.proofs.TreeSizes.{Told, tells, faults, told-then, told-map, told-from, told-spanned, told_named, told-lettered, told-opened, told-done}
+use Rattle.definitions.proofs.TreeSizes.{Told, tells, faults, told_then, told_map, told_from, told_spanned, told_named, told_lettered, told_opened, told_done}
 use Rattle.size_bound.specs.SizeBound.{size_bound, call_size_bound, HoldsCalls}
-use Rattle.size_bound.proofs.Fronts.{Fronted, child_text, heritage-front, scope-front, name-front, member-front, attribute-front, property-front, value-front, child-front}
+use Rattle.size_bound.proofs.Fronts.{Fronted, child_text, heritage_front, scope_front, name_front, member_front, attribute_front, property_front, value_front, child_front}
 
 -- ---- what each part of a tree costs: four bytes for each of its own, and six for each of its texts
 
@@ -86,214 +86,214 @@ abbrev Costs : {A : Type 0} → (A → ℕ) → List ℕ → ℕ → Parsed A �
 Costs cost t r p = Told (λ a u. cost a + size_bound (drop u t) ≤ r) p
 
 behind : {A : Type 0} (cost : A → ℕ) (t : List ℕ) {p : Parsed A} (u : ℕ) → Costs cost (drop u t) (size_bound (drop u t)) p → Costs cost t (size_bound (drop u t)) (from u p)
-behind cost t u h = told-from u h (λ a v e. subst (λ (l : List ℕ). cost a + size_bound l ≤ size_bound (drop u t)) (drop-drop v u t) e)
+behind cost t u h = told_from u h (λ a v e. subst (λ (l : List ℕ). cost a + size_bound l ≤ size_bound (drop u t)) (drop-drop v u t) e)
 
 -- a node behind the nine bytes of its command
 abbrev NodeCosts : List ℕ → Parsed Node → Type 0
 NodeCosts t p = Costs cost_node t (36 + size_bound t) p
 
-opened-costs : (d : ℕ) (p : Place) (t : List ℕ) {body : Parsed Node} → Fronted t 9 0 → NodeCosts (drop 9 t) body → Costs cost_node t (size_bound t) (opened d p body)
-opened-costs d p t f h =
-    told-opened {S = λ n u. cost_node n + size_bound (drop u t) ≤ size_bound t} d p h (λ n u e.
+opened_costs : (d : ℕ) (p : Place) (t : List ℕ) {body : Parsed Node} → Fronted t 9 0 → NodeCosts (drop 9 t) body → Costs cost_node t (size_bound t) (opened d p body)
+opened_costs d p t f h =
+    told_opened {S = λ n u. cost_node n + size_bound (drop u t) ≤ size_bound t} d p h (λ n u e.
     subst (λ (l : List ℕ). cost_node n + size_bound l ≤ size_bound t) (drop-drop u 9 t) (omega arith))
 
 -- ---- by the command in front
 
-members-by : (text t : List ℕ) (c : MemberCommand) (next : ℕ → Parsed (List Span)) → Fronted t (member_size c) 0
+members_by_command : (text t : List ℕ) (c : MemberCommand) (next : ℕ → Parsed (List Span)) → Fronted t (member_size c) 0
     → ((u : ℕ) → Costs cost_members t (size_bound (drop u t)) (next u)) → Costs cost_members t (size_bound t) (members_by text t c next)
 unfolding members_by
-members-by text t members.Other next f h = tells {a = []} {u = 0} (omega arith)
-members-by text t members.Cut next f h = faults
-members-by text t (members.Member s) next f h = told_named (bounds_of text s) (told-map (s ∷◌) (h 5) (λ a u e. omega arith))
+members_by_command text t members.Other next f h = tells {a = []} {u = 0} (omega arith)
+members_by_command text t members.Cut next f h = faults
+members_by_command text t (members.Member s) next f h = told_named (bounds_of text s) (told_map (s ∷◌) (h 5) (λ a u e. omega arith))
 
-name-by : (text t : List ℕ) (c : NameCommand) (next : ℕ → Parsed (List Span)) → Fronted t (name_size c) 0
+name_by_command : (text t : List ℕ) (c : NameCommand) (next : ℕ → Parsed (List Span)) → Fronted t (name_size c) 0
     → ((u : ℕ) → Costs cost_members t (size_bound (drop u t)) (next u)) → Costs cost_name t (size_bound t) (name_by text t c next)
 unfolding name_by size_name
-name-by text t names.Wrong next f h = faults
-name-by text t names.Cut next f h = faults
-name-by text t (names.Plain s) next f h = told_named (bounds_of text s) (tells (omega arith))
-name-by text t (names.Identifier s) next f h = told_named (bounds_of text s) (told-map (identifier s) (h 5) (λ a u e. omega arith))
-name-by text t names.This next f h = told-map this (h 1) (λ a u e. omega arith)
-name-by text t (names.Namespaced s r) next f h = told_named (worse (bounds_of text s) (bounds_of text r)) (tells (omega arith))
+name_by_command text t names.Wrong next f h = faults
+name_by_command text t names.Cut next f h = faults
+name_by_command text t (names.Plain s) next f h = told_named (bounds_of text s) (tells (omega arith))
+name_by_command text t (names.Identifier s) next f h = told_named (bounds_of text s) (told_map (identifier s) (h 5) (λ a u e. omega arith))
+name_by_command text t names.This next f h = told_map this (h 1) (λ a u e. omega arith)
+name_by_command text t (names.Namespaced s r) next f h = told_named (worse (bounds_of text s) (bounds_of text r)) (tells (omega arith))
 
-properties-by : (text t : List ℕ) (c : PropertyCommand) (next : ℕ → Parsed (List Property)) → Fronted t (property_size c) 0
+properties_by_command : (text t : List ℕ) (c : PropertyCommand) (next : ℕ → Parsed (List Property)) → Fronted t (property_size c) 0
     → ((u : ℕ) → Costs cost_properties t (size_bound (drop u t)) (next u)) → Costs cost_properties t (size_bound t) (properties_by text t c next)
 unfolding properties_by size_properties
-properties-by text t properties.Wrong next f h = faults
-properties-by text t properties.Cut next f h = faults
-properties-by text t properties.End next f h = tells {a = []} {u = 1} (omega arith)
-properties-by text t (properties.Property e) next f h = told-map (unnamed e ∷◌) (h 3) (λ a u e. omega arith)
-properties-by text t (properties.Named e s) next f h = told-spanned (bounds_of text s) (told-map (prop_name e s ∷◌) (h 7) (λ a u e. omega arith))
+properties_by_command text t properties.Wrong next f h = faults
+properties_by_command text t properties.Cut next f h = faults
+properties_by_command text t properties.End next f h = tells {a = []} {u = 1} (omega arith)
+properties_by_command text t (properties.Property e) next f h = told_map (unnamed e ∷◌) (h 3) (λ a u e. omega arith)
+properties_by_command text t (properties.Named e s) next f h = told_spanned (bounds_of text s) (told_map (prop_name e s ∷◌) (h 7) (λ a u e. omega arith))
 
-attributes-by : (text t : List ℕ) (c : AttributeCommand) (value : ℕ → Parsed Value) (props : ℕ → Parsed (List Property)) (next : ℕ → Parsed Attributes)
+attributes_by_command : (text t : List ℕ) (c : AttributeCommand) (value : ℕ → Parsed Value) (props : ℕ → Parsed (List Property)) (next : ℕ → Parsed Attributes)
     → Fronted t (attribute_size c) 0
     → ((u : ℕ) → Costs cost_value t (size_bound (drop u t)) (value u))
     → ((u : ℕ) → Costs cost_properties t (size_bound (drop u t)) (props u))
     → ((u : ℕ) → Costs cost_attributes t (size_bound (drop u t)) (next u))
     → Costs cost_attributes t (size_bound t) (attributes_by text t c value props next)
 unfolding attributes_by size_attributes priced_attributes
-attributes-by text t attributes.Wrong value props next f v p h = faults
-attributes-by text t attributes.Cut value props next f v p h = faults
-attributes-by text t attributes.End value props next f v p h = tells {a = no_attributes} {u = 1} (omega arith)
-attributes-by text t (attributes.Plain s) value props next f v p h =
-    told_named (bounds_of text s) (told-then _ (v 5) (λ a u e. told-map (attribute s a) (h u) (λ b w d. omega arith)))
-attributes-by text t (attributes.Namespaced s r) value props next f v p h =
-    told_named (worse (bounds_of text s) (bounds_of text r)) (told-then _ (v 9) (λ a u e. told-map (namespaced_attribute s r a) (h u) (λ b w d. omega arith)))
-attributes-by text t (attributes.Spread e) value props next f v p h = told-map (spread e) (h 3) (λ a u d. omega arith)
-attributes-by text t (attributes.Literal e) value props next f v p h = told-then _ (p 3) (λ a u d. told-map (literal e a) (h u) (λ b w c. omega arith))
+attributes_by_command text t attributes.Wrong value props next f v p h = faults
+attributes_by_command text t attributes.Cut value props next f v p h = faults
+attributes_by_command text t attributes.End value props next f v p h = tells {a = no_attributes} {u = 1} (omega arith)
+attributes_by_command text t (attributes.Plain s) value props next f v p h =
+    told_named (bounds_of text s) (told_then _ (v 5) (λ a u e. told_map (attribute s a) (h u) (λ b w d. omega arith)))
+attributes_by_command text t (attributes.Namespaced s r) value props next f v p h =
+    told_named (worse (bounds_of text s) (bounds_of text r)) (told_then _ (v 9) (λ a u e. told_map (namespaced_attribute s r a) (h u) (λ b w d. omega arith)))
+attributes_by_command text t (attributes.Spread e) value props next f v p h = told_map (spread e) (h 3) (λ a u d. omega arith)
+attributes_by_command text t (attributes.Literal e) value props next f v p h = told_then _ (p 3) (λ a u d. told_map (literal e a) (h u) (λ b w c. omega arith))
 
-value-by : (text : List ℕ) (d : ℕ) (t : List ℕ) (c : ValueCommand) (full bare : Place → Parsed Node) → Fronted t (value_size c) 0
+value_by_command : (text : List ℕ) (d : ℕ) (t : List ℕ) (c : ValueCommand) (full bare : Place → Parsed Node) → Fronted t (value_size c) 0
     → ((p : Place) → NodeCosts (drop 9 t) (full p)) → ((p : Place) → NodeCosts (drop 9 t) (bare p)) → Costs cost_value t (size_bound t) (value_by text d t c full bare)
 unfolding value_by size_value priced_value
-value-by text d t values.Wrong full bare f h k = faults
-value-by text d t values.Cut full bare f h k = faults
-value-by text d t values.Absent full bare f h k = tells {a = absent} {u = 1} (omega arith)
-value-by text d t (values.Text s) full bare f h k = told-lettered text s (tells (omega arith))
-value-by text d t (values.Expression e) full bare f h k = tells {a = expression e} {u = 3} (omega arith)
-value-by text d t values.Empty full bare f h k = tells {a = empty} {u = 1} (omega arith)
-value-by text d t (values.Element p) full bare f h k = told-map node_value (opened-costs d p t f (h p)) (λ n u e. e)
-value-by text d t (values.Fragment p) full bare f h k = told-map node_value (opened-costs d p t f (k p)) (λ n u e. e)
+value_by_command text d t values.Wrong full bare f h k = faults
+value_by_command text d t values.Cut full bare f h k = faults
+value_by_command text d t values.Absent full bare f h k = tells {a = absent} {u = 1} (omega arith)
+value_by_command text d t (values.Text s) full bare f h k = told_lettered text s (tells (omega arith))
+value_by_command text d t (values.Expression e) full bare f h k = tells {a = expression e} {u = 3} (omega arith)
+value_by_command text d t values.Empty full bare f h k = tells {a = empty} {u = 1} (omega arith)
+value_by_command text d t (values.Element p) full bare f h k = told_map node_value (opened_costs d p t f (h p)) (λ n u e. e)
+value_by_command text d t (values.Fragment p) full bare f h k = told_map node_value (opened_costs d p t f (k p)) (λ n u e. e)
 
-children-by : (text : List ℕ) (d : ℕ) (t : List ℕ) (c : ChildCommand) (full bare : Place → Parsed Node) (next : ℕ → Parsed Children)
+children_by_command : (text : List ℕ) (d : ℕ) (t : List ℕ) (c : ChildCommand) (full bare : Place → Parsed Node) (next : ℕ → Parsed Children)
     → Fronted t (child_size c) (child_text c)
     → ((p : Place) → NodeCosts (drop 9 t) (full p))
     → ((p : Place) → NodeCosts (drop 9 t) (bare p))
     → ((u : ℕ) → Costs cost_children t (size_bound (drop u t)) (next u))
     → Costs cost_children t (size_bound t) (children_by text d t c full bare next)
 unfolding children_by size_children priced_children
-children-by text d t children.Wrong full bare next f h k n = faults
-children-by text d t children.Cut full bare next f h k n = faults
-children-by text d t children.End full bare next f h k n = tells {a = no_children} {u = 1} (omega arith)
-children-by text d t (children.Text s) full bare next f h k n = told-lettered text s (told-map (text_child s) (n 5) (λ a u e. omega arith))
-children-by text d t (children.Expression e) full bare next f h k n = told-map (expression_child e) (n 3) (λ a u e. omega arith)
-children-by text d t children.Empty full bare next f h k n = told-map empty_child (n 1) (λ a u e. omega arith)
-children-by text d t (children.Spread e) full bare next f h k n = told-map (spread_child e) (n 3) (λ a u e. omega arith)
-children-by text d t (children.Element p) full bare next f h k n =
-    told-then _ (opened-costs d p t f (h p)) (λ a u e. told-map (node_child a) (n u) (λ b w c. omega arith))
-children-by text d t (children.Fragment p) full bare next f h k n =
-    told-then _ (opened-costs d p t f (k p)) (λ a u e. told-map (node_child a) (n u) (λ b w c. omega arith))
+children_by_command text d t children.Wrong full bare next f h k n = faults
+children_by_command text d t children.Cut full bare next f h k n = faults
+children_by_command text d t children.End full bare next f h k n = tells {a = no_children} {u = 1} (omega arith)
+children_by_command text d t (children.Text s) full bare next f h k n = told_lettered text s (told_map (text_child s) (n 5) (λ a u e. omega arith))
+children_by_command text d t (children.Expression e) full bare next f h k n = told_map (expression_child e) (n 3) (λ a u e. omega arith)
+children_by_command text d t children.Empty full bare next f h k n = told_map empty_child (n 1) (λ a u e. omega arith)
+children_by_command text d t (children.Spread e) full bare next f h k n = told_map (spread_child e) (n 3) (λ a u e. omega arith)
+children_by_command text d t (children.Element p) full bare next f h k n =
+    told_then _ (opened_costs d p t f (h p)) (λ a u e. told_map (node_child a) (n u) (λ b w c. omega arith))
+children_by_command text d t (children.Fragment p) full bare next f h k n =
+    told_then _ (opened_costs d p t f (k p)) (λ a u e. told_map (node_child a) (n u) (λ b w c. omega arith))
 
 -- ---- each reader
 
-members-costs : (f : ℕ) (text t : List ℕ) → Costs cost_members t (size_bound t) (members_at f text t)
+members_costs : (f : ℕ) (text t : List ℕ) → Costs cost_members t (size_bound t) (members_at f text t)
 unfolding members_at
-members-costs zero text t = faults
-members-costs (suc f) text t = members-by text t (member_command t) _ (member-front t) (λ u. behind cost_members t u (members-costs f text (drop u t)))
+members_costs zero text t = faults
+members_costs (suc f) text t = members_by_command text t (member_command t) _ (member_front t) (λ u. behind cost_members t u (members_costs f text (drop u t)))
 
-name-costs : (f : ℕ) (text t : List ℕ) → Costs cost_name t (size_bound t) (name_at f text t)
+name_costs : (f : ℕ) (text t : List ℕ) → Costs cost_name t (size_bound t) (name_at f text t)
 unfolding name_at
-name-costs f text t = name-by text t (name_command t) _ (name-front t) (λ u. behind cost_members t u (members-costs f text (drop u t)))
+name_costs f text t = name_by_command text t (name_command t) _ (name_front t) (λ u. behind cost_members t u (members_costs f text (drop u t)))
 
-properties-costs : (f : ℕ) (text t : List ℕ) → Costs cost_properties t (size_bound t) (properties_at f text t)
+properties_costs : (f : ℕ) (text t : List ℕ) → Costs cost_properties t (size_bound t) (properties_at f text t)
 unfolding properties_at
-properties-costs zero text t = faults
-properties-costs (suc f) text t =
-    properties-by text t (property_command t) _ (property-front t) (λ u. behind cost_properties t u (properties-costs f text (drop u t)))
+properties_costs zero text t = faults
+properties_costs (suc f) text t =
+    properties_by_command text t (property_command t) _ (property_front t) (λ u. behind cost_properties t u (properties_costs f text (drop u t)))
 
 mutual
   unfolding element_at fragment_at attributes_at value_at children_at size_node priced_node
 
-  element-costs : (f : ℕ) (text : List ℕ) (d : ℕ) (p : Place) (t : List ℕ) → NodeCosts t (element_at f text d p t)
-  element-costs zero text d p t = faults
-  element-costs (suc f) text d p t =
-      told-then _ (name-costs f text t) (λ n u e.
-      told-then _ (behind cost_attributes t u (attributes-costs f text (suc d) (drop u t))) (λ a v g.
-      told-map (element p n a) (behind cost_children t v (children-costs f text (suc d) (drop v t))) (λ k w i. omega arith)))
+  element_costs : (f : ℕ) (text : List ℕ) (d : ℕ) (p : Place) (t : List ℕ) → NodeCosts t (element_at f text d p t)
+  element_costs zero text d p t = faults
+  element_costs (suc f) text d p t =
+      told_then _ (name_costs f text t) (λ n u e.
+      told_then _ (behind cost_attributes t u (attributes_costs f text (suc d) (drop u t))) (λ a v g.
+      told_map (element p n a) (behind cost_children t v (children_costs f text (suc d) (drop v t))) (λ k w i. omega arith)))
 
-  fragment-costs : (f : ℕ) (text : List ℕ) (d : ℕ) (p : Place) (t : List ℕ) → NodeCosts t (fragment_at f text d p t)
-  fragment-costs zero text d p t = faults
-  fragment-costs (suc f) text d p t = told-map (fragment p) (children-costs f text (suc d) t) (λ k w i. omega arith)
+  fragment_costs : (f : ℕ) (text : List ℕ) (d : ℕ) (p : Place) (t : List ℕ) → NodeCosts t (fragment_at f text d p t)
+  fragment_costs zero text d p t = faults
+  fragment_costs (suc f) text d p t = told_map (fragment p) (children_costs f text (suc d) t) (λ k w i. omega arith)
 
-  attributes-costs : (f : ℕ) (text : List ℕ) (d : ℕ) (t : List ℕ) → Costs cost_attributes t (size_bound t) (attributes_at f text d t)
-  attributes-costs zero text d t = faults
-  attributes-costs (suc f) text d t =
-      attributes-by text t (attribute_command t) _ _ _
-      (attribute-front t)
-      (λ u. behind cost_value t u (value-costs f text d (drop u t)))
-      (λ u. behind cost_properties t u (properties-costs f text (drop u t)))
-      (λ u. behind cost_attributes t u (attributes-costs f text d (drop u t)))
+  attributes_costs : (f : ℕ) (text : List ℕ) (d : ℕ) (t : List ℕ) → Costs cost_attributes t (size_bound t) (attributes_at f text d t)
+  attributes_costs zero text d t = faults
+  attributes_costs (suc f) text d t =
+      attributes_by_command text t (attribute_command t) _ _ _
+      (attribute_front t)
+      (λ u. behind cost_value t u (value_costs f text d (drop u t)))
+      (λ u. behind cost_properties t u (properties_costs f text (drop u t)))
+      (λ u. behind cost_attributes t u (attributes_costs f text d (drop u t)))
 
-  value-costs : (f : ℕ) (text : List ℕ) (d : ℕ) (t : List ℕ) → Costs cost_value t (size_bound t) (value_at f text d t)
-  value-costs zero text d t = faults
-  value-costs (suc f) text d t =
-      value-by text d t (value_command t) _ _
-      (value-front t)
-      (λ p. element-costs f text d p (drop 9 t))
-      (λ p. fragment-costs f text d p (drop 9 t))
+  value_costs : (f : ℕ) (text : List ℕ) (d : ℕ) (t : List ℕ) → Costs cost_value t (size_bound t) (value_at f text d t)
+  value_costs zero text d t = faults
+  value_costs (suc f) text d t =
+      value_by_command text d t (value_command t) _ _
+      (value_front t)
+      (λ p. element_costs f text d p (drop 9 t))
+      (λ p. fragment_costs f text d p (drop 9 t))
 
-  children-costs : (f : ℕ) (text : List ℕ) (d : ℕ) (t : List ℕ) → Costs cost_children t (size_bound t) (children_at f text d t)
-  children-costs zero text d t = faults
-  children-costs (suc f) text d t =
-      children-by text d t (child_command t) _ _ _
-      (child-front t)
-      (λ p. element-costs f text d p (drop 9 t))
-      (λ p. fragment-costs f text d p (drop 9 t))
-      (λ u. behind cost_children t u (children-costs f text d (drop u t)))
+  children_costs : (f : ℕ) (text : List ℕ) (d : ℕ) (t : List ℕ) → Costs cost_children t (size_bound t) (children_at f text d t)
+  children_costs zero text d t = faults
+  children_costs (suc f) text d t =
+      children_by_command text d t (child_command t) _ _ _
+      (child_front t)
+      (λ p. element_costs f text d p (drop 9 t))
+      (λ p. fragment_costs f text d p (drop 9 t))
+      (λ u. behind cost_children t u (children_costs f text d (drop u t)))
 
 -- ---- the root
 
 abbrev ScopedWithin : ℕ → Parsed Scoped → Type 0
 ScopedWithin r p = Told (λ s u. cost_node s.node ≤ r) p
 
-scopes-by : (text t : List ℕ) (c : ScopeCommand) (full bare : Place → Parsed Node) (next : ℕ → Parsed Scoped) → Fronted t (scope_size c) 0
+scopes_by_command : (text t : List ℕ) (c : ScopeCommand) (full bare : Place → Parsed Node) (next : ℕ → Parsed Scoped) → Fronted t (scope_size c) 0
     → ((p : Place) → NodeCosts (drop 9 t) (full p))
     → ((p : Place) → NodeCosts (drop 9 t) (bare p))
     → ((k : ℕ) → ScopedWithin (size_bound (drop 2 t)) (next k))
     → ScopedWithin (size_bound t) (scopes_by text t c full bare next)
 unfolding scopes_by
-scopes-by text t scopes.Wrong full bare next f h k n = faults
-scopes-by text t scopes.Cut full bare next f h k n = faults
-scopes-by text t scopes.Bad full bare next f h k n = faults
-scopes-by text t (scopes.Scope x) full bare next f h k n = told-map (in_scope x) (n x) (λ s u e. omega arith)
-scopes-by text t (scopes.Element p) full bare next f h k n = told-map unscoped (opened-costs 0 p t f (h p)) (λ x u e. omega arith)
-scopes-by text t (scopes.Fragment p) full bare next f h k n = told-map unscoped (opened-costs 0 p t f (k p)) (λ x u e. omega arith)
+scopes_by_command text t scopes.Wrong full bare next f h k n = faults
+scopes_by_command text t scopes.Cut full bare next f h k n = faults
+scopes_by_command text t scopes.Bad full bare next f h k n = faults
+scopes_by_command text t (scopes.Scope x) full bare next f h k n = told_map (in_scope x) (n x) (λ s u e. omega arith)
+scopes_by_command text t (scopes.Element p) full bare next f h k n = told_map unscoped (opened_costs 0 p t f (h p)) (λ x u e. omega arith)
+scopes_by_command text t (scopes.Fragment p) full bare next f h k n = told_map unscoped (opened_costs 0 p t f (k p)) (λ x u e. omega arith)
 
-scopes-within : (f : ℕ) (text : List ℕ) (known : Bool) (t : List ℕ) → ScopedWithin (size_bound t) (scopes_at f text known t)
+scopes_within : (f : ℕ) (text : List ℕ) (known : Bool) (t : List ℕ) → ScopedWithin (size_bound t) (scopes_at f text known t)
 unfolding scopes_at
-scopes-within zero text known t = faults
-scopes-within (suc f) text known t =
-    scopes-by text t (scope_command known t) _ _ _
-    (scope-front known t)
-    (λ p. element-costs f text 0 p (drop 9 t))
-    (λ p. fragment-costs f text 0 p (drop 9 t))
-    (λ k. told-from 2 (scopes-within f text (known || is_function k) (drop 2 t)) (λ s u e. e))
+scopes_within zero text known t = faults
+scopes_within (suc f) text known t =
+    scopes_by_command text t (scope_command known t) _ _ _
+    (scope_front known t)
+    (λ p. element_costs f text 0 p (drop 9 t))
+    (λ p. fragment_costs f text 0 p (drop 9 t))
+    (λ k. told_from 2 (scopes_within f text (known || is_function k) (drop 2 t)) (λ s u e. e))
 
 abbrev RootWithin : ℕ → Parsed Root → Type 0
 RootWithin r p = Told (λ o u. cost_node o.node ≤ r) p
 
-root-by : (t : List ℕ) (c : HeritageCommand) (rest : Parsed Scoped) → Fronted t (heritage_size c) 0 → ScopedWithin (size_bound (drop 2 t)) rest
+root_by_command : (t : List ℕ) (c : HeritageCommand) (rest : Parsed Scoped) → Fronted t (heritage_size c) 0 → ScopedWithin (size_bound (drop 2 t)) rest
     → RootWithin (size_bound t) (root_by t c rest)
 unfolding root_by
-root-by t heritages.Wrong rest f h = faults
-root-by t heritages.Cut rest f h = faults
-root-by t heritages.Bad rest f h = faults
-root-by t (heritages.Heritage x) rest f h = told-map _ h (λ s u e. omega arith)
+root_by_command t heritages.Wrong rest f h = faults
+root_by_command t heritages.Cut rest f h = faults
+root_by_command t heritages.Bad rest f h = faults
+root_by_command t (heritages.Heritage x) rest f h = told_map _ h (λ s u e. omega arith)
 
-root-within : (text t : List ℕ) → RootWithin (size_bound t) (read_root text t)
+root_within : (text t : List ℕ) → RootWithin (size_bound t) (read_root text t)
 unfolding read_root whole
-root-within text t =
-    told-then _
-    (root-by t (heritage_command t) _ (heritage-front t) (told-from 2 (scopes-within (suc (length t)) text false (drop 2 t)) (λ s u e. e)))
-    (λ r u e. told-whole (ltb u (length t)) r u e)
+root_within text t =
+    told_then _
+    (root_by_command t (heritage_command t) _ (heritage_front t) (told_from 2 (scopes_within (suc (length t)) text false (drop 2 t)) (λ s u e. e)))
+    (λ r u e. told_whole (ltb u (length t)) r u e)
   where
-    told-whole : (b : Bool) (r : Root) (u : ℕ) → cost_node r.node ≤ size_bound t → RootWithin (size_bound t) (cond b (stop fault.Grammar u) (done r u))
-    told-whole true r u e = faults
-    told-whole false r u e = tells e
+    told_whole : (b : Bool) (r : Root) (u : ℕ) → cost_node r.node ≤ size_bound t → RootWithin (size_bound t) (cond b (stop fault.Grammar u) (done r u))
+    told_whole true r u e = faults
+    told_whole false r u e = tells e
 
-calls-within : (text tape : List ℕ) (s : Settings) (js : List Import) (o : Root) (u : ℕ) → read_root text tape ≡ done o u
+calls_within : (text tape : List ℕ) (s : Settings) (js : List Import) (o : Root) (u : ℕ) → read_root text tape ≡ done o u
     → length (lowered_after text s js o).calls ≤ size_bound tape
 unfolding lowered_after lower_root
-calls-within text tape s js o u e =
-    let h : cost_node o.node ≤ size_bound tape = told-done (root-within text tape) e in
-    omega (arith, calls-weigh js (lower_root text s o), node-weighs-by-texts (record { text = text; settings = s; self_allowed = can_add_self o }) o.node)
+calls_within text tape s js o u e =
+    let h : cost_node o.node ≤ size_bound tape = told_done (root_within text tape) e in
+    omega (arith, calls_weigh js (lower_root text s o), node_weighs_by_texts (record { text = text; settings = s; self_allowed = can_add_self o }) o.node)
 
-pub told-bound : (tape : List ℕ) → length tape ≤ 65535 → call_size_bound tape ≡ size_bound tape
+pub told_bound : (tape : List ℕ) → length tape ≤ 65535 → call_size_bound tape ≡ size_bound tape
 unfolding call_size_bound
-told-bound tape h = rw (le-ltb 65535 (length tape) h) refl
+told_bound tape h = rw (le-ltb 65535 (length tape) h) refl
 
 pub no_bound : (tape : List ℕ) → 65535 < length tape → call_size_bound tape ≡ 0
 unfolding call_size_bound
 no_bound tape h = rw (lt-ltb 65535 (length tape) h) refl
 
-pub bound-enough : (tape : List ℕ) → HoldsCalls tape (call_size_bound tape)
-bound-enough tape text s js o u h e = rw (told-bound tape h) (calls-within text tape s js o u e)
+pub bound_enough : (tape : List ℕ) → HoldsCalls tape (call_size_bound tape)
+bound_enough tape text s js o u h e = rw (told_bound tape h) (calls_within text tape s js o u e)

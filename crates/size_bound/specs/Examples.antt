@@ -17,6 +17,6 @@ unfolding call_size_bound size_bound texts_behind text_length command_size size_
 rooms = refl
 
 -- a tape over the limit
-pub over-limit : call_size_bound (replicate 65536 0) ≡ 0
+pub over_limit : call_size_bound (replicate 65536 0) ≡ 0
 unfolding call_size_bound
-over-limit = refl
+over_limit = refl

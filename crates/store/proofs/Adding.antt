@@ -1,8 +1,8 @@
 -- Adding an import to a store (`added` and `Holds` of specs, Adding).
---     added-over, added-found, added-made, added_full     what it gives, by the tests that the code makes
---     full-stays                                          a full store stays as it is
---     holds-from                                          a store of js and any places behind them
---     held-things, held-adds                              of a store that holds js: what it binds, and all that adding an import gives
+--     added_over, added_found, added_made, added_full     what it gives, by the tests that the code makes
+--     full_stays                                          a full store stays as it is
+--     holds_from                                          a store of js and any places behind them
+--     held_things, held_adds                              of a store that holds js: what it binds, and all that adding an import gives
 --     held_moved                                          the state after an accepted root is that of a store which holds what is bound then
 -- Assumes nothing.
 use mathlib.Core.Path.{◌≡◌, refl, sym, ap, ◌∙◌}
@@ -23,34 +23,34 @@ use Rattle.definitions.specs.Store.{number_in, is_bound}
 use Rattle.definitions.specs.Entries.{Lowered, records_from, moved}
 use Rattle.store.specs.declared.module_imports.Store.{Store}
 use Rattle.store.specs.Adding.{things, full_of, found_in, made_in, added, Holds, Adds}
-use Rattle.records.proofs.Numbers.{nowhere, number-le}
-use Rattle.store.proofs.Growing.{bound-there, bound-new, imports-from, length_from, from-append}
+use Rattle.records.proofs.Numbers.{nowhere, number_le}
+use Rattle.store.proofs.Growing.{bound_there, bound_new, imports_from, length_from, from_append}
 
 -- ---- by the code's tests
 
-pub added-over : (s : Store) (i : Import) → 8 < s.count → added s i ≡ full_of s
+pub added_over : (s : Store) (i : Import) → 8 < s.count → added s i ≡ full_of s
 unfolding added
-added-over s i h = rw (lt-ltb 8 s.count h)
+added_over s i h = rw (lt-ltb 8 s.count h)
 
 module _ (s : Store) (i : Import) (few : s.count ≤ 8) (eight : length s.records ≡ 8) where
-  length-things : length (things s) ≡ s.count
-  length-things = length-map (take s.count s.records) (λ r. r.import) ∙ length-take-le s.count s.records (omega arith)
+  length_things : length (things s) ≡ s.count
+  length_things = length-map (take s.count s.records) (λ r. r.import) ∙ length-take-le s.count s.records (omega arith)
 
-  pub added-found : number_in (things s) i < s.count → added s i ≡ found_in s i
+  pub added_found : number_in (things s) i < s.count → added s i ≡ found_in s i
   unfolding added
-  added-found h = rw (le-ltb 8 s.count few, length-things, lt-ltb (number_in (things s) i) s.count h)
+  added_found h = rw (le-ltb 8 s.count few, length_things, lt-ltb (number_in (things s) i) s.count h)
 
-  pub added-made : s.count ≤ number_in (things s) i → s.count < 8 → added s i ≡ made_in s i
+  pub added_made : s.count ≤ number_in (things s) i → s.count < 8 → added s i ≡ made_in s i
   unfolding added
-  added-made h k = rw (le-ltb 8 s.count few, length-things, le-ltb (number_in (things s) i) s.count h, lt-ltb s.count 8 k)
+  added_made h k = rw (le-ltb 8 s.count few, length_things, le-ltb (number_in (things s) i) s.count h, lt-ltb s.count 8 k)
 
   pub added_full : s.count ≤ number_in (things s) i → 8 ≤ s.count → added s i ≡ full_of s
   unfolding added
-  added_full h k = rw (le-ltb 8 s.count few, length-things, le-ltb (number_in (things s) i) s.count h, le-ltb s.count 8 k)
+  added_full h k = rw (le-ltb 8 s.count few, length_things, le-ltb (number_in (things s) i) s.count h, le-ltb s.count 8 k)
 
-pub full-stays : (s : Store) (i : Import) → (added s i).full ≡ true → (added s i).store ≡ s
+pub full_stays : (s : Store) (i : Import) → (added s i).full ≡ true → (added s i).store ≡ s
 unfolding added
-full-stays s i = go (ltb 8 s.count) (is_bound (things s) i) (ltb s.count 8)
+full_stays s i = go (ltb 8 s.count) (is_bound (things s) i) (ltb s.count 8)
   where
     go : (over there room : Bool) → (cond over (full_of s) (cond there (found_in s i) (cond room (made_in s i) (full_of s)))).full ≡ true
         → (cond over (full_of s) (cond there (found_in s i) (cond room (made_in s i) (full_of s)))).store ≡ s
@@ -61,18 +61,18 @@ full-stays s i = go (ltb 8 s.count) (is_bound (things s) i) (ltb s.count 8)
 
 -- ---- a store that holds js
 
-pub holds-from : (js : List Import) (rest : List Record) (s : Store) → length s.records ≡ 8 → length js ≤ 8 → s.count ≡ length js
+pub holds_from : (js : List Import) (rest : List Record) (s : Store) → length s.records ≡ 8 → length js ≤ 8 → s.count ≡ length js
     → s.records ≡ records_from 0 js ++ rest → Holds s.records js s
-holds-from js rest s eight few counted whole = record {
+holds_from js rest s eight few counted whole = record {
   eight = eight;
   few = few;
   counted = counted;
   whole = whole ∙ ap (λ (l : List Record). records_from 0 js ++ l) (sym (rw whole (drop_at (records_from 0 js) rest (length js) (length_from 0 js))));
 }
 
-pub held-things : {a : List Record} {js : List Import} {s : Store} → Holds a js s → things s ≡ js
-held-things {a} {js} {s} h =
-    rw (h.whole, take_at (records_from 0 js) (drop (length js) a) s.count (length_from 0 js ∙ sym h.counted)) (imports-from 0 js)
+pub held_things : {a : List Record} {js : List Import} {s : Store} → Holds a js s → things s ≡ js
+held_things {a} {js} {s} h =
+    rw (h.whole, take_at (records_from 0 js) (drop (length js) a) s.count (length_from 0 js ∙ sym h.counted)) (imports_from 0 js)
 
 -- a record behind them
 held_more : {a : List Record} {js : List Import} {s : Store} (i : Import) → Holds a js s → length js < 8 → Holds a (js ++ i ∷ []) (made_in s i).store
@@ -83,18 +83,18 @@ held_more {a} {js} {s} i h k =
       eight = h.eight;
       few = omega arith;
       counted = ap (λ (n : ℕ). n + 1) h.counted ∙ sym e;
-      whole = rw (h.whole, h.counted, e, add-one, drop-cons a (length js) nowhere (omega (arith, h.eight)), from-append 0 js (i ∷ []), append_assoc, zero-add)
+      whole = rw (h.whole, h.counted, e, add-one, drop-cons a (length js) nowhere (omega (arith, h.eight)), from_append 0 js (i ∷ []), append_assoc, zero-add)
           (set_at (records_from 0 js) _ _ _ (length js) (length_from 0 js));
     }
 
 -- what adding gives, over js
-held-added : {a : List Record} {js : List Import} {s : Store} (i : Import) → Holds a js s
+held_added : {a : List Record} {js : List Import} {s : Store} (i : Import) → Holds a js s
     → added s i ≡ cond (is_bound js i) (record { store = s; number = number_in js i; full = false }) (cond (ltb (length js) 8) (made_in s i) (full_of s))
 unfolding added
-held-added {s = s} i h = rw (le-ltb 8 s.count (omega (arith, h.few, h.counted)), held-things h, h.counted)
+held_added {s = s} i h = rw (le-ltb 8 s.count (omega (arith, h.few, h.counted)), held_things h, h.counted)
 
-pub held-adds : {a : List Record} {js : List Import} {s : Store} (i : Import) → Holds a js s → Adds a js i (added s i)
-held-adds {a} {js} {s} i h = rw (held-added i h) (go (is_bound js i) refl (ltb (length js) 8) refl)
+pub held_adds : {a : List Record} {js : List Import} {s : Store} (i : Import) → Holds a js s → Adds a js i (added s i)
+held_adds {a} {js} {s} i h = rw (held_added i h) (go (is_bound js i) refl (ltb (length js) 8) refl)
   where
     more : length (js ++ i ∷ []) ≡ length js + 1
     more = length-append js (i ∷ [])
@@ -102,17 +102,17 @@ held-adds {a} {js} {s} i h = rw (held-added i h) (go (is_bound js i) refl (ltb (
     go : (there : Bool) → is_bound js i ≡ there → (room : Bool) → ltb (length js) 8 ≡ room
         → Adds a js i (cond there (record { store = s; number = number_in js i; full = false }) (cond room (made_in s i) (full_of s)))
     go true e room f = record {
-      fullness = rw (bound-there js i e) (sym (le-ltb 8 (length js) h.few));
+      fullness = rw (bound_there js i e) (sym (le-ltb 8 (length js) h.few));
       number = λ _. refl;
-      holds = λ _. rw (bound-there js i e) h;
+      holds = λ _. rw (bound_there js i e) h;
     }
     go false e true f = record {
-      fullness = rw (bound-new js i e) (sym (le-ltb 8 (length (js ++ i ∷ [])) (omega (arith, more, ltb-true (length js) 8 f))));
-      number = λ _. omega (arith, h.counted, number-le js i, ltb-false (number_in js i) (length js) e);
-      holds = λ _. rw (bound-new js i e) (held_more i h (ltb-true (length js) 8 f));
+      fullness = rw (bound_new js i e) (sym (le-ltb 8 (length (js ++ i ∷ [])) (omega (arith, more, ltb-true (length js) 8 f))));
+      number = λ _. omega (arith, h.counted, number_le js i, ltb-false (number_in js i) (length js) e);
+      holds = λ _. rw (bound_new js i e) (held_more i h (ltb-true (length js) 8 f));
     }
     go false e false f = record {
-      fullness = rw (bound-new js i e) (sym (lt-ltb 8 (length (js ++ i ∷ [])) (omega (arith, more, ltb-false (length js) 8 f))));
+      fullness = rw (bound_new js i e) (sym (lt-ltb 8 (length (js ++ i ∷ [])) (omega (arith, more, ltb-false (length js) 8 f))));
       number = λ full. absurd (true≢false full);
       holds = λ full. absurd (true≢false full);
     }

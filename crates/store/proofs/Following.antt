@@ -1,6 +1,6 @@
 -- Records one after the other (`following` of specs, Following).
---     follows-not, follows_on, follows-all     a walk through the first n records of an array, at element i
---     following-sound                          it is what soundness says of the records
+--     follows_not, follows_on, follows_all     a walk through the first n records of an array, at element i
+--     following_sound                          it is what soundness says of the records
 -- Assumes nothing.
 use mathlib.Core.Path.{◌≡◌, refl, ◌∙◌}
 use mathlib.Core.Bool.{Bool, true, false, not, ◌&&◌}
@@ -27,9 +27,9 @@ module _ (s : Settings) (a : List Record) (i n : ℕ) (h : i < n) (k : n ≤ len
       let l : length (imports (take i a)) ≡ i = length-map (take i a) (λ r. r.import) ∙ length-take-le i a (omega arith) in
       rw (l, f, g)
 
-  pub follows-not : (eqb (get_or a i nowhere).binding i && not (ltb number i) && can) ≡ false → following s i (imports (take i a)) (slice i n a) ≡ false
+  pub follows_not : (eqb (get_or a i nowhere).binding i && not (ltb number i) && can) ≡ false → following s i (imports (take i a)) (slice i n a) ≡ false
   unfolding following
-  follows-not e = rw (slice-cons i n a nowhere h k, may ∙ e)
+  follows_not e = rw (slice-cons i n a nowhere h k, may ∙ e)
 
   pub follows_on : (eqb (get_or a i nowhere).binding i && not (ltb number i) && can) ≡ true
       → following s i (imports (take i a)) (slice i n a) ≡ following s (i + 1) (imports (take (i + 1) a)) (slice (i + 1) n a)
@@ -37,9 +37,9 @@ module _ (s : Settings) (a : List Record) (i n : ℕ) (h : i < n) (k : n ≤ len
   follows_on e =
       rw (slice-cons i n a nowhere h k, may ∙ e, add-one, take-suc a i nowhere (omega arith), map-append)
 
-pub follows-all : (s : Settings) (seen : List Import) (n : ℕ) (a : List Record) → following s n seen (slice n n a) ≡ true
+pub follows_all : (s : Settings) (seen : List Import) (n : ℕ) (a : List Record) → following s n seen (slice n n a) ≡ true
 unfolding following
-follows-all s seen n a = rw (slice_empty n a)
+follows_all s seen n a = rw (slice_empty n a)
 
 -- ---- what soundness says of the records
 
@@ -52,9 +52,9 @@ regroup true true false true false w = refl
 regroup true true false true true w = refl
 regroup true true true u v w = refl
 
-pub following-sound : (s : Settings) (k : ℕ) (seen : List Import) (rs : List Record)
+pub following_sound : (s : Settings) (k : ℕ) (seen : List Import) (rs : List Record)
     → following s k seen rs ≡ (numbered_from k rs && unrepeated seen (imports rs) && all_bindable s (imports rs))
 unfolding following numbered_from unrepeated all_bindable
-following-sound s k seen [] = refl
-following-sound s k seen (r ∷ rs) =
-    rw (following-sound s (suc k) (seen ++ r.import ∷ []) rs) (regroup (eqb r.binding k) (not (is_bound seen r.import)) (can_bind s r.import) _ _ _)
+following_sound s k seen [] = refl
+following_sound s k seen (r ∷ rs) =
+    rw (following_sound s (suc k) (seen ++ r.import ∷ []) rs) (regroup (eqb r.binding k) (not (is_bound seen r.import)) (can_bind s r.import) _ _ _)

@@ -1,8 +1,8 @@
--- What is bound only grows, and records as things with numbers (`bound` of definitions, Store; `recordsFrom` of Entries).
---     bound-there, bound-new          what binding a thing gives
---     bound-grows, bound-after-grows  what is bound never gets less, by a thing or by commands
---     imports-from, length_from, from-append     the things of records that are numbered in order, how many there are, and one list behind another
---     numbered-back                   records that are numbered in order are their things, numbered
+-- What is bound only grows, and records as things with numbers (`bound` of definitions, Store; `records_from` of Entries).
+--     bound_there, bound_new          what binding a thing gives
+--     bound_grows, bound_after_grows  what is bound never gets less, by a thing or by commands
+--     imports_from, length_from, from_append     the things of records that are numbered in order, how many there are, and one list behind another
+--     numbered_back                   records that are numbered in order are their things, numbered
 -- Assumes nothing.
 use mathlib.Core.Path.{◌≡◌, refl, ap}
 use mathlib.Core.Bool.{Bool, true, false, cond, ◌&&◌, false≢true}
@@ -22,58 +22,58 @@ use Rattle.definitions.specs.Entries.{records_from}
 
 -- ---- what is bound
 
-pub bound-there : (js : List Import) (i : Import) → is_bound js i ≡ true → bound js i ≡ js
+pub bound_there : (js : List Import) (i : Import) → is_bound js i ≡ true → bound js i ≡ js
 unfolding bound
-bound-there js i e = rw e
+bound_there js i e = rw e
 
-pub bound-new : (js : List Import) (i : Import) → is_bound js i ≡ false → bound js i ≡ js ++ i ∷ []
+pub bound_new : (js : List Import) (i : Import) → is_bound js i ≡ false → bound js i ≡ js ++ i ∷ []
 unfolding bound
-bound-new js i e = rw e
+bound_new js i e = rw e
 
-pub bound-grows : (js : List Import) (i : Import) → length js ≤ length (bound js i)
+pub bound_grows : (js : List Import) (i : Import) → length js ≤ length (bound js i)
 unfolding bound
-bound-grows js i = go (is_bound js i)
+bound_grows js i = go (is_bound js i)
   where
     go : (b : Bool) → length js ≤ length (cond b js (js ++ i ∷ []))
     go true = omega arith
     go false = omega (arith, length-append js (i ∷ []))
 
-bound-by-grows : (js : List Import) (c : Command Import) → length js ≤ length (bound_by js c)
+bound_by_grows : (js : List Import) (c : Command Import) → length js ≤ length (bound_by js c)
 unfolding bound_by
-bound-by-grows js (bare c) = omega arith
-bound-by-grows js (byte c n) = omega arith
-bound-by-grows js (over c e) = omega arith
-bound-by-grows js (span c s) = omega arith
-bound-by-grows js (binding i) = bound-grows js i
-bound-by-grows js (source i p) = bound-grows js i
+bound_by_grows js (bare c) = omega arith
+bound_by_grows js (byte c n) = omega arith
+bound_by_grows js (over c e) = omega arith
+bound_by_grows js (span c s) = omega arith
+bound_by_grows js (binding i) = bound_grows js i
+bound_by_grows js (source i p) = bound_grows js i
 
-pub bound-after-grows : (js : List Import) (cs : List (Command Import)) → length js ≤ length (bound_after js cs)
+pub bound_after_grows : (js : List Import) (cs : List (Command Import)) → length js ≤ length (bound_after js cs)
 unfolding bound_after
-bound-after-grows js [] = omega arith
-bound-after-grows js (c ∷ cs) = omega (arith, bound-by-grows js c, bound-after-grows (bound_by js c) cs)
+bound_after_grows js [] = omega arith
+bound_after_grows js (c ∷ cs) = omega (arith, bound_by_grows js c, bound_after_grows (bound_by js c) cs)
 
 -- ---- numbered records
 
-pub imports-from : (k : ℕ) (js : List Import) → imports (records_from k js) ≡ js
+pub imports_from : (k : ℕ) (js : List Import) → imports (records_from k js) ≡ js
 unfolding records_from
-imports-from k [] = refl
-imports-from k (j ∷ js) = ap (λ (l : List Import). j ∷ l) (imports-from (suc k) js)
+imports_from k [] = refl
+imports_from k (j ∷ js) = ap (λ (l : List Import). j ∷ l) (imports_from (suc k) js)
 
 pub length_from : (k : ℕ) (js : List Import) → length (records_from k js) ≡ length js
 unfolding records_from
 length_from k [] = refl
 length_from k (j ∷ js) = ap suc (length_from (suc k) js)
 
-pub from-append : (k : ℕ) (js is : List Import) → records_from k (js ++ is) ≡ records_from k js ++ records_from (k + length js) is
+pub from_append : (k : ℕ) (js is : List Import) → records_from k (js ++ is) ≡ records_from k js ++ records_from (k + length js) is
 unfolding records_from
-from-append k [] is = rw add-zero
-from-append k (j ∷ js) is =
-    rw (add-suc k (length js), ← suc-add k (length js)) (ap (λ (l : List Record). record { import = j; binding = k } ∷ l) (from-append (suc k) js is))
+from_append k [] is = rw add-zero
+from_append k (j ∷ js) is =
+    rw (add-suc k (length js), ← suc-add k (length js)) (ap (λ (l : List Record). record { import = j; binding = k } ∷ l) (from_append (suc k) js is))
 
-pub numbered-back : (k : ℕ) (rs : List Record) → numbered_from k rs ≡ true → rs ≡ records_from k (imports rs)
+pub numbered_back : (k : ℕ) (rs : List Record) → numbered_from k rs ≡ true → rs ≡ records_from k (imports rs)
 unfolding numbered_from records_from
-numbered-back k [] h = refl
-numbered-back k (r ∷ rs) h = go (eqb r.binding k) refl h (numbered-back (suc k) rs)
+numbered_back k [] h = refl
+numbered_back k (r ∷ rs) h = go (eqb r.binding k) refl h (numbered_back (suc k) rs)
   where
     go : (b : Bool) → eqb r.binding k ≡ b → (b && numbered_from (suc k) rs) ≡ true → (numbered_from (suc k) rs ≡ true → rs ≡ records_from (suc k) (imports rs))
         → r ∷ rs ≡ record { import = r.import; binding = k } ∷ records_from (suc k) (imports rs)

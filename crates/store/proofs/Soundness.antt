@@ -1,7 +1,7 @@
 -- What soundness says of a state (`sound` of definitions, States).
---     sound-over, sound-parts                     by the code's tests
---     sound-few, sound-numbered, sound-bindable   what a sound state's records are
---     sound-holds                                 its store holds its things
+--     sound_over, sound_parts                     by the code's tests
+--     sound_few, sound_numbered, sound_bindable   what a sound state's records are
+--     sound_holds                                 its store holds its things
 -- Assumes nothing.
 use mathlib.Core.Path.{◌≡◌, refl, sym, ◌∙◌}
 use mathlib.Core.Bool.{Bool, true, false, not, ◌&&◌, and-eq-true_iff}
@@ -17,8 +17,8 @@ use Rattle.definitions.specs.States.{spans_borne_out, forms_borne_out, live, imp
 use Rattle.definitions.specs.Entries.{records_from}
 use Rattle.store.specs.Following.{following}
 use Rattle.store.specs.Adding.{store_of, Holds}
-use Rattle.store.proofs.Following.{following-sound}
-use Rattle.store.proofs.Growing.{numbered-back}
+use Rattle.store.proofs.Following.{following_sound}
+use Rattle.store.proofs.Growing.{numbered_back}
 
 -- ---- by the code's tests
 
@@ -27,15 +27,15 @@ regroup true u v w = refl
 regroup false u v w = refl
 
 module _ (text : List ℕ) (s : State) where
-  pub sound-over : 8 < s.count → sound text s ≡ false
+  pub sound_over : 8 < s.count → sound text s ≡ false
   unfolding sound
-  sound-over h = rw (lt-ltb 8 s.count h)
+  sound_over h = rw (lt-ltb 8 s.count h)
 
-  pub sound-parts : s.count ≤ 8
+  pub sound_parts : s.count ≤ 8
       → (spans_borne_out text s.settings.options && forms_borne_out text s.settings && following s.settings 0 [] (live s)) ≡ sound text s
   unfolding sound
-  sound-parts h =
-      rw (le-ltb 8 s.count h, following-sound s.settings 0 [] (live s))
+  sound_parts h =
+      rw (le-ltb 8 s.count h, following_sound s.settings 0 [] (live s))
       (regroup (spans_borne_out text s.settings.options && forms_borne_out text s.settings) _ _ _)
 
 -- ---- a sound state
@@ -53,21 +53,21 @@ module _ (text : List ℕ) (s : State) (h : sound text s ≡ true) where
   tests = chain (not (ltb 8 s.count)) (spans_borne_out text s.settings.options) (forms_borne_out text s.settings) (numbered_from 0 (live s))
       (unrepeated [] (imports (live s))) (all_bindable s.settings (imports (live s))) h
 
-  pub sound-few : s.count ≤ 8
-  sound-few = ltb-false 8 s.count (not-true _ tests.0)
+  pub sound_few : s.count ≤ 8
+  sound_few = ltb-false 8 s.count (not-true _ tests.0)
 
-  pub sound-numbered : live s ≡ records_from 0 (imports (live s))
-  sound-numbered = numbered-back 0 (live s) tests.1
+  pub sound_numbered : live s ≡ records_from 0 (imports (live s))
+  sound_numbered = numbered_back 0 (live s) tests.1
 
-  pub sound-bindable : all_bindable s.settings (imports (live s)) ≡ true
-  sound-bindable = tests.2
+  pub sound_bindable : all_bindable s.settings (imports (live s)) ≡ true
+  sound_bindable = tests.2
 
-  pub sound-holds : length s.records ≡ 8 → Holds s.records (imports (live s)) (store_of s)
-  sound-holds e =
-      let l : length (imports (live s)) ≡ s.count = length-map (live s) (λ r. r.import) ∙ length-take-le s.count s.records (omega (arith, sound-few)) in
+  pub sound_holds : length s.records ≡ 8 → Holds s.records (imports (live s)) (store_of s)
+  sound_holds e =
+      let l : length (imports (live s)) ≡ s.count = length-map (live s) (λ r. r.import) ∙ length-take-le s.count s.records (omega (arith, sound_few)) in
       record {
         eight = e;
-        few = omega (arith, sound-few);
+        few = omega (arith, sound_few);
         counted = sym l;
-        whole = rw (← sound-numbered, l) (sym (take-append-drop s.count s.records));
+        whole = rw (← sound_numbered, l) (sym (take-append-drop s.count s.records));
       }

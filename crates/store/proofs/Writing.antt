@@ -1,6 +1,6 @@
 -- Text and state as `judge_state` judges them, and what is written behind it.
---     state-short, state-sound        what an accepted answer says of text and state
---     state-refused, state-accepted   what an entry answers and leaves in its target
+--     state_short, state_sound        what an accepted answer says of text and state
+--     state_refused, state_accepted   what an entry answers and leaves in its target
 -- Assumes nothing.
 use mathlib.Core.Path.{◌≡◌, refl, ap, ◌∙◌}
 use mathlib.Core.Bool.{true}
@@ -17,7 +17,7 @@ use Rattle.definitions.specs.declared.state.Written.TheVariants as written
 use Rattle.definitions.specs.Judging.{Judged, accepted}
 use Rattle.definitions.specs.States.{sound}
 use Rattle.definitions.specs.Entries.{judge_writing, records_answer, records_target}
-use Rattle.definitions.proofs.Verdicts.{past, past-at}
+use Rattle.definitions.proofs.Verdicts.{past, past_at}
 use Rattle.records.proofs.Writing.{Comes}
 use Rattle.store.specs.Judging.{behind}
 
@@ -26,18 +26,18 @@ module _ (text : List ℕ) (s : State) {a : Answer} (f : (j : Judged (List ℕ))
   unfolding behind
   clear e = f (accepted []) ∙ ap (λ (x : Answer). behind x (accepted [])) e
 
-  pub state-short : a ≡ Accepted → length text ≤ 65535
+  pub state_short : a ≡ Accepted → length text ≤ 65535
   unfolding judge_writing
-  state-short e = ltb-false 65535 (length text) (past _ _ _ _ (clear e)).0
+  state_short e = ltb-false 65535 (length text) (past _ _ _ _ (clear e)).0
 
-  pub state-sound : a ≡ Accepted → sound text s ≡ true
+  pub state_sound : a ≡ Accepted → sound text s ≡ true
   unfolding judge_writing
-  state-sound e = not-false _ (past _ _ _ _ (past-at _ _ _ _ (past _ _ _ _ (clear e)).1).1).0
+  state_sound e = not-false _ (past _ _ _ _ (past_at _ _ _ _ (past _ _ _ _ (clear e)).1).1).0
 
-  pub state-refused : (x : Refusal) (j : Judged (List ℕ)) (o : List ℕ) → a ≡ Refused x → Comes (judge_writing text s j) (written.Refused x) o o
+  pub state_refused : (x : Refusal) (j : Judged (List ℕ)) (o : List ℕ) → a ≡ Refused x → Comes (judge_writing text s j) (written.Refused x) o o
   unfolding behind records_answer records_target
-  state-refused x j o e = rw (f j, e) (refl, refl)
+  state_refused x j o e = rw (f j, e) (refl, refl)
 
-  pub state-accepted : (j : Judged (List ℕ)) (o : List ℕ) {w : Written} {o' : List ℕ} → a ≡ Accepted → Comes j w o o' → Comes (judge_writing text s j) w o o'
+  pub state_accepted : (j : Judged (List ℕ)) (o : List ℕ) {w : Written} {o' : List ℕ} → a ≡ Accepted → Comes j w o o' → Comes (judge_writing text s j) w o o'
   unfolding behind
-  state-accepted j o e h = rw (f j, e) h
+  state_accepted j o e h = rw (f j, e) h

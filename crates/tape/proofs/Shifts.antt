@@ -1,8 +1,8 @@
 -- A byte at place k of a number, by shifts and or: what sums and products, quotients and remainders give, for every value.
 --     joined                                a number of k bits and a byte shifted up to k, by or
---     four-joined                           the number of four bytes
+--     four_joined                           the number of four bytes
 --     taken                                 what stands above the byte shifted out, then what stands below it
---     two-taken, four-taken, span-taken     the bytes of a number of two and of four bytes, and of a span
+--     two_taken, four_taken, span_taken     the bytes of a number of two and of four bytes, and of a span
 -- Assumes nothing.
 use mathlib.Core.Path.{◌≡◌, sym, ap, ap₂, ◌∙◌}
 use mathlib.Core.List.{[], ◌∷◌, ◌++◌}
@@ -17,14 +17,14 @@ pub joined : (low b k w : ℕ) → low < 2 ^ k → b < 256 → 8 + k ≤ w → b
 joined low b k w small byte fits =
     ap (bit_or low) (shl_exact 8 k w byte fits) ∙ or_shifted_r b k low small ∙ add_comm (b * 2 ^ k) low
 
-pub four-joined :
+pub four_joined :
     (a b c d : ℕ)
     → a < 256
     → b < 256
     → c < 256
     → d < 256
     → bit_or (bit_or (bit_or a (b * 2 ^ 8 % 2 ^ 32)) (c * 2 ^ 16 % 2 ^ 32)) (d * 2 ^ 24 % 2 ^ 32) ≡ a + b * 256 + c * 65536 + d * 16777216
-four-joined a b c d p q r s =
+four_joined a b c d p q r s =
     rw (joined a b 8 32 p q (omega arith), joined (a + b * 256) c 16 32 (omega arith) r (omega arith))
     (joined (a + b * 256 + c * 65536) d 24 32 (omega arith) s (omega arith))
 
@@ -36,15 +36,15 @@ taken x above k =
 first : (x : ℕ) → x / 2 ^ 0 % 256 ≡ x % 256
 first x = ap (λ (n : ℕ). n % 256) (div-one x)
 
-pub two-taken : (x : ℕ) → x * 2 ^ 8 % 2 ^ 16 / 2 ^ 8 ∷ x / 2 ^ 8 ∷ [] ≡ u16_bytes x
-two-taken x = λ ι. (taken x 8 0 ∙ first x) ι ∷ x / 256 ∷ []
+pub two_taken : (x : ℕ) → x * 2 ^ 8 % 2 ^ 16 / 2 ^ 8 ∷ x / 2 ^ 8 ∷ [] ≡ u16_bytes x
+two_taken x = λ ι. (taken x 8 0 ∙ first x) ι ∷ x / 256 ∷ []
 
-pub four-taken :
+pub four_taken :
     (x : ℕ)
     → x * 2 ^ 24 % 2 ^ 32 / 2 ^ 24 ∷ x * 2 ^ 16 % 2 ^ 32 / 2 ^ 24 ∷ x * 2 ^ 8 % 2 ^ 32 / 2 ^ 24 ∷ x / 2 ^ 24 ∷ [] ≡ u32_bytes x
-four-taken x = λ ι. (taken x 24 0 ∙ first x) ι ∷ taken x 16 8 ι ∷ taken x 8 16 ι ∷ x / 16777216 ∷ []
+four_taken x = λ ι. (taken x 24 0 ∙ first x) ι ∷ taken x 16 8 ι ∷ taken x 8 16 ι ∷ x / 16777216 ∷ []
 
-pub span-taken :
+pub span_taken :
     (s l : ℕ)
     → s * 2 ^ 8 % 2 ^ 16 / 2 ^ 8 ∷ s / 2 ^ 8 ∷ l * 2 ^ 8 % 2 ^ 16 / 2 ^ 8 ∷ l / 2 ^ 8 ∷ [] ≡ u16_bytes s ++ u16_bytes l
-span-taken s l = ap₂ ◌++◌ (two-taken s) (two-taken l)
+span_taken s l = ap₂ ◌++◌ (two_taken s) (two_taken l)

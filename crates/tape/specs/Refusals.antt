@@ -16,7 +16,7 @@ fault_number Reference = 7
 fault_number Position = 8
 
 -- in which order the faults of one command are told: "13 span cuts a character, directly after 4; 14 empty name, directly after 13", and the others as they were. By
--- number it is 3, 4, 13, 14, 6, 7, 8 (Examples, `order-by-number`)
+-- number it is 3, 4, 13, 14, 6, 7, 8 (Examples, `order_by_number`)
 abbrev pub fault_order : List Fault
 fault_order = Grammar ∷ Outside ∷ Cuts ∷ EmptyName ∷ Depth ∷ Reference ∷ Position ∷ []
 

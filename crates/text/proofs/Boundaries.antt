@@ -13,16 +13,16 @@ use borrow.Author.Tests.{lt-ltb}
 use Rattle.text.specs.declared.bytes.Found.TheVariants.{Nothing}
 use Rattle.text.specs.Utf8.{width, after, ill_from, first_ill}
 use Rattle.text.specs.Spans.{continues, cuts_at, boundary_from, is_boundary}
-use Rattle.text.proofs.Sequences.{sequence, width-le}
+use Rattle.text.proofs.Sequences.{sequence, width_le}
 
 -- ---- one byte
 cuts_first : (b : ℕ) (l : List ℕ) → cuts_at (b ∷ l) 0 ≡ continues b
 unfolding cuts_at
 cuts_first b l = rw (lt-ltb 0 (suc (length l)) (omega arith))
 
-cuts-next : (b : ℕ) (l : List ℕ) (i : ℕ) → cuts_at (b ∷ l) (suc i) ≡ cuts_at l i
+cuts_next : (b : ℕ) (l : List ℕ) (i : ℕ) → cuts_at (b ∷ l) (suc i) ≡ cuts_at l i
 unfolding cuts_at
-cuts-next b l i = rw (leb-suc-suc (suc i) (length l))
+cuts_next b l i = rw (leb-suc-suc (suc i) (length l))
 
 -- a text without ill-formed sequences begins with a sequence, after which it is well-formed too
 pub begins : (b : ℕ) (l : List ℕ) (at : ℕ) → ill_from 0 at (b ∷ l) ≡ Nothing
@@ -37,64 +37,64 @@ begins b l at e = go (width (b ∷ l)) refl e
 
 -- ---- where a text is cut
 -- with n bytes of a character to pass, all of which continue it
-cuts-from : (l : List ℕ) (n at i : ℕ) → i ≤ length l → ill_from n at l ≡ Nothing
+cuts_from : (l : List ℕ) (n at i : ℕ) → i ≤ length l → ill_from n at l ≡ Nothing
     → ((k : ℕ) → k < n → continues (get_or l k 0) ≡ true) → cuts_at l i ≡ not (boundary_from n l i)
 unfolding ill_from boundary_from cuts_at
-cuts-from [] n at zero h e t = refl
-cuts-from [] n at (suc i) h e t = absurd (not-suc-le-zero h)
-cuts-from (b ∷ l) zero at zero h e t = let s = begins b l at e in cuts_first b l ∙ (sequence (b ∷ l) s.0 s.1).first
-cuts-from (b ∷ l) (suc n) at zero h e t = cuts_first b l ∙ t 0 (omega arith)
-cuts-from (b ∷ l) zero at (suc i) h e t =
+cuts_from [] n at zero h e t = refl
+cuts_from [] n at (suc i) h e t = absurd (not-suc-le-zero h)
+cuts_from (b ∷ l) zero at zero h e t = let s = begins b l at e in cuts_first b l ∙ (sequence (b ∷ l) s.0 s.1).first
+cuts_from (b ∷ l) (suc n) at zero h e t = cuts_first b l ∙ t 0 (omega arith)
+cuts_from (b ∷ l) zero at (suc i) h e t =
     let s = begins b l at e in
-    let rec = cuts-from l s.0 (suc at) i (le_of_suc-le-suc h) s.2 (λ k j. (sequence (b ∷ l) s.0 s.1).after k j) in
-    cuts-next b l i ∙ rw (s.1, sub-one) rec
-cuts-from (b ∷ l) (suc n) at (suc i) h e t =
-    cuts-next b l i ∙ cuts-from l n (suc at) i (le_of_suc-le-suc h) e (λ k j. t (suc k) (omega arith))
+    let rec = cuts_from l s.0 (suc at) i (le_of_suc-le-suc h) s.2 (λ k j. (sequence (b ∷ l) s.0 s.1).after k j) in
+    cuts_next b l i ∙ rw (s.1, sub-one) rec
+cuts_from (b ∷ l) (suc n) at (suc i) h e t =
+    cuts_next b l i ∙ cuts_from l n (suc at) i (le_of_suc-le-suc h) e (λ k j. t (suc k) (omega arith))
 
-pub cuts-boundary : (text : List ℕ) (i : ℕ) → first_ill text ≡ Nothing → i ≤ length text
+pub cuts_boundary : (text : List ℕ) (i : ℕ) → first_ill text ≡ Nothing → i ≤ length text
     → cuts_at text i ≡ not (is_boundary text i)
 unfolding first_ill is_boundary
-cuts-boundary text i e h = cuts-from text 0 0 i h e (λ k j. absurd (not-suc-le-zero j))
+cuts_boundary text i e h = cuts_from text 0 0 i h e (λ k j. absurd (not-suc-le-zero j))
 
 -- ---- from a boundary on, a text is a text of its own
 pub never : false ≡ true → ⊥
 never e = let z : ◌≡◌ {A = ℕ} 0 1 = cc in omega arith
 
-boundary-shift : (l : List ℕ) (n i j : ℕ) → boundary_from n l i ≡ true → boundary_from n l (i + j) ≡ boundary_from 0 (drop i l) j
+boundary_shift : (l : List ℕ) (n i j : ℕ) → boundary_from n l i ≡ true → boundary_from n l (i + j) ≡ boundary_from 0 (drop i l) j
 unfolding boundary_from
-boundary-shift [] n zero j e = rw zero-add
-boundary-shift [] n (suc i) j e = absurd (never (sym (eqb-suc-zero i) ∙ e))
-boundary-shift (b ∷ l) zero zero j e = rw zero-add
-boundary-shift (b ∷ l) (suc n) zero j e = absurd (never e)
-boundary-shift (b ∷ l) zero (suc i) j e = rw (suc-add i j) (boundary-shift l (width (b ∷ l) - 1) i j e)
-boundary-shift (b ∷ l) (suc n) (suc i) j e = rw (suc-add i j) (boundary-shift l n i j e)
+boundary_shift [] n zero j e = rw zero-add
+boundary_shift [] n (suc i) j e = absurd (never (sym (eqb-suc-zero i) ∙ e))
+boundary_shift (b ∷ l) zero zero j e = rw zero-add
+boundary_shift (b ∷ l) (suc n) zero j e = absurd (never e)
+boundary_shift (b ∷ l) zero (suc i) j e = rw (suc-add i j) (boundary_shift l (width (b ∷ l) - 1) i j e)
+boundary_shift (b ∷ l) (suc n) (suc i) j e = rw (suc-add i j) (boundary_shift l n i j e)
 
-ill-shift : (l : List ℕ) (n at i : ℕ) → ill_from n at l ≡ Nothing → boundary_from n l i ≡ true
+ill_shift : (l : List ℕ) (n at i : ℕ) → ill_from n at l ≡ Nothing → boundary_from n l i ≡ true
     → ill_from 0 (at + i) (drop i l) ≡ Nothing
 unfolding boundary_from ill_from
-ill-shift [] n at zero e h = refl
-ill-shift [] n at (suc i) e h = refl
-ill-shift (b ∷ l) zero at zero e h = rw add-zero e
-ill-shift (b ∷ l) (suc n) at zero e h = absurd (never h)
-ill-shift (b ∷ l) zero at (suc i) e h =
-    let s = begins b l at e in rw (add-suc at i, ← suc-add at i) (ill-shift l s.0 (suc at) i s.2 (rw (s.1, sub-one) at h))
-ill-shift (b ∷ l) (suc n) at (suc i) e h = rw (add-suc at i, ← suc-add at i) (ill-shift l n (suc at) i e h)
+ill_shift [] n at zero e h = refl
+ill_shift [] n at (suc i) e h = refl
+ill_shift (b ∷ l) zero at zero e h = rw add-zero e
+ill_shift (b ∷ l) (suc n) at zero e h = absurd (never h)
+ill_shift (b ∷ l) zero at (suc i) e h =
+    let s = begins b l at e in rw (add-suc at i, ← suc-add at i) (ill_shift l s.0 (suc at) i s.2 (rw (s.1, sub-one) at h))
+ill_shift (b ∷ l) (suc n) at (suc i) e h = rw (add-suc at i, ← suc-add at i) (ill_shift l n (suc at) i e h)
 
 -- where the list stands in a text is of no account
-ill-anywhere : (l : List ℕ) (n at to : ℕ) → ill_from n at l ≡ Nothing → ill_from n to l ≡ Nothing
+ill_anywhere : (l : List ℕ) (n at to : ℕ) → ill_from n at l ≡ Nothing → ill_from n to l ≡ Nothing
 unfolding ill_from after
-ill-anywhere [] n at to e = refl
-ill-anywhere (b ∷ l) zero at to e = let s = begins b l at e in rw s.1 (ill-anywhere l s.0 (suc at) (suc to) s.2)
-ill-anywhere (b ∷ l) (suc n) at to e = ill-anywhere l n (suc at) (suc to) e
+ill_anywhere [] n at to e = refl
+ill_anywhere (b ∷ l) zero at to e = let s = begins b l at e in rw s.1 (ill_anywhere l s.0 (suc at) (suc to) s.2)
+ill_anywhere (b ∷ l) (suc n) at to e = ill_anywhere l n (suc at) (suc to) e
 
 module _ (text : List ℕ) (i : ℕ) (h : is_boundary text i ≡ true) where
-  pub boundary-rest : (j : ℕ) → is_boundary text (i + j) ≡ is_boundary (drop i text) j
+  pub boundary_rest : (j : ℕ) → is_boundary text (i + j) ≡ is_boundary (drop i text) j
   unfolding is_boundary
-  boundary-rest j = boundary-shift text 0 i j h
+  boundary_rest j = boundary_shift text 0 i j h
 
-  pub rest-well-formed : first_ill text ≡ Nothing → first_ill (drop i text) ≡ Nothing
+  pub rest_well_formed : first_ill text ≡ Nothing → first_ill (drop i text) ≡ Nothing
   unfolding is_boundary first_ill
-  rest-well-formed e = ill-anywhere (drop i text) 0 (0 + i) 0 (ill-shift text 0 0 i e h)
+  rest_well_formed e = ill_anywhere (drop i text) 0 (0 + i) 0 (ill_shift text 0 0 i e h)
 
 -- ---- the boundaries of a text
 pub boundary_start : (text : List ℕ) → is_boundary text 0 ≡ true
@@ -103,44 +103,44 @@ boundary_start [] = refl
 boundary_start (b ∷ l) = refl
 
 -- after the n bytes that are to pass
-boundary-pass : (l : List ℕ) (n : ℕ) → n ≤ length l → boundary_from n l n ≡ true
+boundary_pass : (l : List ℕ) (n : ℕ) → n ≤ length l → boundary_from n l n ≡ true
 unfolding boundary_from
-boundary-pass [] zero h = refl
-boundary-pass [] (suc n) h = absurd (not-suc-le-zero h)
-boundary-pass (b ∷ l) zero h = refl
-boundary-pass (b ∷ l) (suc n) h = boundary-pass l n (le_of_suc-le-suc h)
+boundary_pass [] zero h = refl
+boundary_pass [] (suc n) h = absurd (not-suc-le-zero h)
+boundary_pass (b ∷ l) zero h = refl
+boundary_pass (b ∷ l) (suc n) h = boundary_pass l n (le_of_suc-le-suc h)
 
-boundary-after : (l : List ℕ) (n : ℕ) → width l ≡ suc n → is_boundary l (suc n) ≡ true
+boundary_after : (l : List ℕ) (n : ℕ) → width l ≡ suc n → is_boundary l (suc n) ≡ true
 unfolding is_boundary boundary_from
-boundary-after [] n e = absurd (omega (arith, e, width-le []))
-boundary-after (b ∷ l) n e = rw (e, sub-one) (boundary-pass l n (omega (arith, e, width-le (b ∷ l))))
+boundary_after [] n e = absurd (omega (arith, e, width_le []))
+boundary_after (b ∷ l) n e = rw (e, sub-one) (boundary_pass l n (omega (arith, e, width_le (b ∷ l))))
 
 -- after the first character
-boundary-first : (l : List ℕ) → is_boundary l (width l) ≡ true
-boundary-first l = go (width l) refl
+boundary_first : (l : List ℕ) → is_boundary l (width l) ≡ true
+boundary_first l = go (width l) refl
   where
     go : (w : ℕ) → width l ≡ w → is_boundary l w ≡ true
     go zero e = boundary_start l
-    go (suc n) e = boundary-after l n e
+    go (suc n) e = boundary_after l n e
 
-pub boundary-next : (text : List ℕ) (i : ℕ) → is_boundary text i ≡ true → is_boundary text (i + width (drop i text)) ≡ true
-boundary-next text i h = boundary-rest text i h (width (drop i text)) ∙ boundary-first (drop i text)
+pub boundary_next : (text : List ℕ) (i : ℕ) → is_boundary text i ≡ true → is_boundary text (i + width (drop i text)) ≡ true
+boundary_next text i h = boundary_rest text i h (width (drop i text)) ∙ boundary_first (drop i text)
 
-boundary-last : (l : List ℕ) (n : ℕ) → boundary_from n l (length l) ≡ true
+boundary_last : (l : List ℕ) (n : ℕ) → boundary_from n l (length l) ≡ true
 unfolding boundary_from
-boundary-last [] n = refl
-boundary-last (b ∷ l) zero = boundary-last l (width (b ∷ l) - 1)
-boundary-last (b ∷ l) (suc n) = boundary-last l n
+boundary_last [] n = refl
+boundary_last (b ∷ l) zero = boundary_last l (width (b ∷ l) - 1)
+boundary_last (b ∷ l) (suc n) = boundary_last l n
 
 pub boundary_end : (text : List ℕ) → is_boundary text (length text) ≡ true
 unfolding is_boundary
-boundary_end text = boundary-last text 0
+boundary_end text = boundary_last text 0
 
 -- a character stands at every boundary before the end
 pub width_positive : (text : List ℕ) (i : ℕ) → first_ill text ≡ Nothing → is_boundary text i ≡ true → i < length text
     → 0 < width (drop i text)
 unfolding first_ill
-width_positive text i e h k = go (drop i text) (omega (arith, length-drop i text)) (rest-well-formed text i h e)
+width_positive text i e h k = go (drop i text) (omega (arith, length-drop i text)) (rest_well_formed text i h e)
   where
     go : (l : List ℕ) → 0 < length l → first_ill l ≡ Nothing → 0 < width l
     go [] k e = absurd (not-suc-le-zero k)

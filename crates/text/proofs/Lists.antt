@@ -12,9 +12,9 @@ pub told : {A : Type 0} {r x b : A} → r ≡ x → r ≡ b → x ≡ b
 told p q = sym p ∙ q
 
 -- `&s[a..]` is the list from a on
-pub tail-part : (l : List ℕ) (a : ℕ) → take (length l - a) (drop a l) ≡ drop a l
-tail-part l a = take_all (length l - a) (drop a l) (omega (arith, length-drop a l))
+pub tail_part : (l : List ℕ) (a : ℕ) → take (length l - a) (drop a l) ≡ drop a l
+tail_part l a = take_all (length l - a) (drop a l) (omega (arith, length-drop a l))
 
 -- a list from place i on is the element there and the list from the next place on
-pub drop-one : (l : List ℕ) (i : ℕ) → i < length l → drop i l ≡ get_or l i 0 ∷ drop (i + 1) l
-drop-one l i h = rw (add-one, drop-cons l i 0)
+pub drop_one : (l : List ℕ) (i : ℕ) → i < length l → drop i l ≡ get_or l i 0 ∷ drop (i + 1) l
+drop_one l i h = rw (add-one, drop-cons l i 0)

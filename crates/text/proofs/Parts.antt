@@ -12,22 +12,22 @@ use Rattle.text.specs.declared.spans.Span.{Span}
 use Rattle.text.specs.declared.spans.Bounds.{Bounds}
 use Rattle.text.specs.declared.spans.Bounds.TheVariants.{Outside, Cuts, Empty, Good}
 use Rattle.text.specs.Spans.{part_of, cuts_at, bounds_of}
-use Rattle.text.proofs.Lists.{tail-part}
+use Rattle.text.proofs.Lists.{tail_part}
 
 -- ---- the three parts that the code takes
 module _ (text : List ℕ) (s : Span) where
-  pub part-inside : take (s.start + s.len - s.start) (drop s.start text) ≡ part_of text s
+  pub part_inside : take (s.start + s.len - s.start) (drop s.start text) ≡ part_of text s
   unfolding part_of
-  part-inside = let e : s.start + s.len - s.start ≡ s.len = omega arith in rw e
+  part_inside = let e : s.start + s.len - s.start ≡ s.len = omega arith in rw e
 
-  pub part-tail : length text ≤ s.start + s.len → take (length text - s.start) (drop s.start text) ≡ part_of text s
+  pub part_tail : length text ≤ s.start + s.len → take (length text - s.start) (drop s.start text) ≡ part_of text s
   unfolding part_of
-  part-tail h =
-      tail-part text s.start ∙ sym (take_all s.len (drop s.start text) (omega (arith, length-drop s.start text)))
+  part_tail h =
+      tail_part text s.start ∙ sym (take_all s.len (drop s.start text) (omega (arith, length-drop s.start text)))
 
-  pub part-past : length text ≤ s.start → [] ≡ part_of text s
+  pub part_past : length text ≤ s.start → [] ≡ part_of text s
   unfolding part_of
-  part-past h = rw (drop_of_length-le text h) (sym (take-nil s.len))
+  part_past h = rw (drop_of_length-le text h) (sym (take-nil s.len))
 
   pub part_length : s.start + s.len ≤ length text → length (part_of text s) ≡ s.len
   unfolding part_of
@@ -39,9 +39,9 @@ abbrev bounded : Bool → Bool → Bool → Bool → Bounds
 bounded o a b e = cond o Outside (cond (a || b) Cuts (cond e Empty Good))
 
 module _ (text : List ℕ) (s : Span) where
-  pub bounds-inside : (bounds_of text s ≡ Outside → ⊥) → s.start + s.len ≤ length text
+  pub bounds_inside : (bounds_of text s ≡ Outside → ⊥) → s.start + s.len ≤ length text
   unfolding bounds_of
-  bounds-inside f = go (ltb (length text) (s.start + s.len)) refl f
+  bounds_inside f = go (ltb (length text) (s.start + s.len)) refl f
     where
       go : (o : Bool) → ltb (length text) (s.start + s.len) ≡ o
           → (bounded o (cuts_at text s.start) (cuts_at text (s.start + s.len)) (eqb s.len 0) ≡ Outside → ⊥)
@@ -49,13 +49,13 @@ module _ (text : List ℕ) (s : Span) where
       go true e f = absurd (f refl)
       go false e f = ltb-false (length text) (s.start + s.len) e
 
-  pub part-of-length : (bounds_of text s ≡ Outside → ⊥) → length (part_of text s) ≡ s.len
-  part-of-length f = part_length text s (bounds-inside f)
+  pub part_of_length : (bounds_of text s ≡ Outside → ⊥) → length (part_of text s) ≡ s.len
+  part_of_length f = part_length text s (bounds_inside f)
 
-  pub bounds-uncut : (bounds_of text s ≡ Outside → ⊥) → (bounds_of text s ≡ Cuts → ⊥)
+  pub bounds_uncut : (bounds_of text s ≡ Outside → ⊥) → (bounds_of text s ≡ Cuts → ⊥)
       → (cuts_at text s.start ≡ false) × (cuts_at text (s.start + s.len) ≡ false)
   unfolding bounds_of
-  bounds-uncut f g = go (ltb (length text) (s.start + s.len)) (cuts_at text s.start) (cuts_at text (s.start + s.len)) f g
+  bounds_uncut f g = go (ltb (length text) (s.start + s.len)) (cuts_at text s.start) (cuts_at text (s.start + s.len)) f g
     where
       go : (o a b : Bool) → (bounded o a b (eqb s.len 0) ≡ Outside → ⊥) → (bounded o a b (eqb s.len 0) ≡ Cuts → ⊥)
           → (a ≡ false) × (b ≡ false)
@@ -64,14 +64,14 @@ module _ (text : List ℕ) (s : Span) where
       go false false true f g = absurd (g refl)
       go false false false f g = (refl, refl)
 
-  pub good-bounds : bounds_of text s ≡ Good → (bounds_of text s ≡ Outside → ⊥) × (bounds_of text s ≡ Cuts → ⊥)
-  good-bounds h = (
+  pub good_bounds : bounds_of text s ≡ Good → (bounds_of text s ≡ Outside → ⊥) × (bounds_of text s ≡ Cuts → ⊥)
+  good_bounds h = (
     λ e. let z : ◌≡◌ {A = ℕ} 0 1 = cc in omega arith,
     λ e. let z : ◌≡◌ {A = ℕ} 0 1 = cc in omega arith,
   )
 
-  pub empty-bounds : bounds_of text s ≡ Empty → (bounds_of text s ≡ Outside → ⊥) × (bounds_of text s ≡ Cuts → ⊥)
-  empty-bounds h = (
+  pub empty_bounds : bounds_of text s ≡ Empty → (bounds_of text s ≡ Outside → ⊥) × (bounds_of text s ≡ Cuts → ⊥)
+  empty_bounds h = (
     λ e. let z : ◌≡◌ {A = ℕ} 0 1 = cc in omega arith,
     λ e. let z : ◌≡◌ {A = ℕ} 0 1 = cc in omega arith,
   )

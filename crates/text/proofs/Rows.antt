@@ -40,25 +40,25 @@ module _ (l : List ℕ) where
   unfolding within
   below lo hi h = simp (lt-leb lo (get_or l 0 0) h, and-false)
 
-  none-fits : (rs : List Row) → Under (get_or l 0 0) rs → width_by rs l ≡ 0
-  none-fits [] u = refl
-  none-fits ([] ∷ rs) u = absurd u
-  none-fits ((r ∷ q) ∷ rs) u = rw (below r.0 r.1 u.0) (none-fits rs u.1)
+  none_fits : (rs : List Row) → Under (get_or l 0 0) rs → width_by rs l ≡ 0
+  none_fits [] u = refl
+  none_fits ([] ∷ rs) u = absurd u
+  none_fits ((r ∷ q) ∷ rs) u = rw (below r.0 r.1 u.0) (none_fits rs u.1)
 
   row_fits : (rs : List Row) (k : ℕ) → 0 < length l → Over (get_or l 0 0) (take k rs) → Leads (get_or l 0 0) (get_or rs k [])
       → Under (get_or l 0 0) (drop (suc k) rs) → width_by rs l ≡ rest (others (get_or rs k [])) l
   row_fits [] zero h o i u = absurd i
   row_fits [] (suc k) h o i u = absurd i
   row_fits ([] ∷ rs) zero h o i u = absurd i
-  row_fits ((r ∷ q) ∷ rs) zero h o i u = rw (inside r.0 r.1 h i.0 i.1, none-fits rs u)
+  row_fits ((r ∷ q) ∷ rs) zero h o i u = rw (inside r.0 r.1 h i.0 i.1, none_fits rs u)
   row_fits ([] ∷ rs) (suc k) h o i u = absurd o
   row_fits ((r ∷ q) ∷ rs) (suc k) h o i u = rw (above r.0 r.1 o.0) (row_fits rs k h o.1 i u)
 
-  past-rows : (rs : List Row) (k : ℕ) → Over (get_or l 0 0) (take k rs) → width_by rs l ≡ width_by (drop k rs) l
-  past-rows rs zero o = refl
-  past-rows [] (suc k) o = refl
-  past-rows ([] ∷ rs) (suc k) o = absurd o
-  past-rows ((r ∷ q) ∷ rs) (suc k) o = rw (above r.0 r.1 o.0) (past-rows rs k o.1)
+  past_rows : (rs : List Row) (k : ℕ) → Over (get_or l 0 0) (take k rs) → width_by rs l ≡ width_by (drop k rs) l
+  past_rows rs zero o = refl
+  past_rows [] (suc k) o = refl
+  past_rows ([] ∷ rs) (suc k) o = absurd o
+  past_rows ((r ∷ q) ∷ rs) (suc k) o = rw (above r.0 r.1 o.0) (past_rows rs k o.1)
 
   -- the first byte is that of row k; it stands between the rows before k and the others
   abbrev pub InRow : ℕ → Type 0
@@ -73,7 +73,7 @@ module _ (l : List ℕ) where
 
   pub no_row : (k : ℕ) → Between k → 0 ≡ width l
   unfolding width
-  no_row k h = sym (past-rows table k h.0 ∙ none-fits (drop k table) h.1)
+  no_row k h = sym (past_rows table k h.0 ∙ none_fits (drop k table) h.1)
 
 pub no_byte : (l : List ℕ) → length l ≡ 0 → 0 ≡ width l
 unfolding width within

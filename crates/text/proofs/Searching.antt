@@ -13,22 +13,22 @@ use borrow.Author.Tests.{eqb-false, ne_eqb, not-true}
 use lib.Bits.{bit_or, or_add_and, and_le_l, and_le_r}
 use Rattle.text.specs.declared.bytes.Found.TheVariants.{At, Nothing}
 use Rattle.text.specs.Bytes.{find_from, find}
-use Rattle.text.proofs.Lists.{drop-one}
+use Rattle.text.proofs.Lists.{drop_one}
 
 module _ (p : ℕ → Bool) where
   -- ---- from place i of a list
-  pub find-hit : (s : List ℕ) (i : ℕ) → i < length s → p (get_or s i 0) ≡ true → find_from p i (drop i s) ≡ At i
+  pub find_hit : (s : List ℕ) (i : ℕ) → i < length s → p (get_or s i 0) ≡ true → find_from p i (drop i s) ≡ At i
   unfolding find_from
-  find-hit s i h e = rw (drop-one s i h, e)
+  find_hit s i h e = rw (drop_one s i h, e)
 
-  pub find-step : (s : List ℕ) (i : ℕ) → i < length s → p (get_or s i 0) ≡ false
+  pub find_step : (s : List ℕ) (i : ℕ) → i < length s → p (get_or s i 0) ≡ false
       → find_from p i (drop i s) ≡ find_from p (i + 1) (drop (i + 1) s)
   unfolding find_from
-  find-step s i h e = ap (find_from p i) (drop-one s i h) ∙ rw (e, add-one)
+  find_step s i h e = ap (find_from p i) (drop_one s i h) ∙ rw (e, add-one)
 
-  pub find-end : (s : List ℕ) (i : ℕ) → length s ≤ i → find_from p i (drop i s) ≡ Nothing
+  pub find_end : (s : List ℕ) (i : ℕ) → length s ≤ i → find_from p i (drop i s) ≡ Nothing
   unfolding find_from
-  find-end s i h = rw (drop_of_length-le s h)
+  find_end s i h = rw (drop_of_length-le s h)
 
   -- ---- what an answer says: j bytes fail, and the next one passes
   pub record Hit (l : List ℕ) (j : ℕ) : Type 0 where
@@ -36,8 +36,8 @@ module _ (p : ℕ → Bool) where
     pub passes : p (get_or l j 0) ≡ true
     pub before : (k : ℕ) → k < j → p (get_or l k 0) ≡ false
 
-  pub hit-more : (b : ℕ) (l : List ℕ) (j : ℕ) → p b ≡ false → Hit l j → Hit (b ∷ l) (suc j)
-  hit-more b l j e h = record { inside = omega (arith, h.inside); passes = h.passes; before = go }
+  pub hit_more : (b : ℕ) (l : List ℕ) (j : ℕ) → p b ≡ false → Hit l j → Hit (b ∷ l) (suc j)
+  hit_more b l j e h = record { inside = omega (arith, h.inside); passes = h.passes; before = go }
     where
       go : (k : ℕ) → k < suc j → p (get_or (b ∷ l) k 0) ≡ false
       go zero q = e
@@ -57,10 +57,10 @@ module _ (p : ℕ → Bool) where
       go false h q ih =
           let r : (suc at ≤ j) × Hit l (j - suc at) = ih q in
           let d : j - at ≡ suc (j - suc at) = omega arith in
-          (omega arith, rw d (hit-more b l (j - suc at) h r.1))
+          (omega arith, rw d (hit_more b l (j - suc at) h r.1))
 
-  pub find-found : (l : List ℕ) (j : ℕ) → find p l ≡ At j → Hit l j
-  find-found l j e = rw (sub-zero j) at (find_at l 0 j e).1
+  pub find_found : (l : List ℕ) (j : ℕ) → find p l ≡ At j → Hit l j
+  find_found l j e = rw (sub-zero j) at (find_at l 0 j e).1
 
   pub find_none : (l : List ℕ) (at : ℕ) → find_from p at l ≡ Nothing → (k : ℕ) → k < length l → p (get_or l k 0) ≡ false
   unfolding find_from
@@ -75,30 +75,30 @@ module _ (p : ℕ → Bool) where
       go false q e ih (suc k) h = ih e k (le_of_suc-le-suc h)
 
   -- ---- many bytes at once
-  pub find-run : (n at : ℕ) (l : List ℕ) → n ≤ length l → ((k : ℕ) → k < n → p (get_or l k 0) ≡ false)
+  pub find_run : (n at : ℕ) (l : List ℕ) → n ≤ length l → ((k : ℕ) → k < n → p (get_or l k 0) ≡ false)
       → find_from p at l ≡ find_from p (at + n) (drop n l)
   unfolding find_from
-  find-run zero at l h f = rw add-zero
-  find-run (suc n) at [] h f = absurd (not-suc-le-zero h)
-  find-run (suc n) at (b ∷ l) h f =
-      rw (f 0 (omega arith), add-suc at n, ← suc-add at n) (find-run n (suc at) l (le_of_suc-le-suc h) (λ k j. f (suc k) (omega arith)))
+  find_run zero at l h f = rw add-zero
+  find_run (suc n) at [] h f = absurd (not-suc-le-zero h)
+  find_run (suc n) at (b ∷ l) h f =
+      rw (f 0 (omega arith), add-suc at n, ← suc-add at n) (find_run n (suc at) l (le_of_suc-le-suc h) (λ k j. f (suc k) (omega arith)))
 
   -- no byte of `&s[i..i + n]` passes
-  pub find-block : (s : List ℕ) (i n : ℕ) → i + n ≤ length s → find p (take (i + n - i) (drop i s)) ≡ Nothing
+  pub find_block : (s : List ℕ) (i n : ℕ) → i + n ≤ length s → find p (take (i + n - i) (drop i s)) ≡ Nothing
       → find_from p i (drop i s) ≡ find_from p (i + n) (drop (i + n) s)
-  find-block s i n h e =
+  find_block s i n h e =
       let z : i + n - i ≡ n = omega arith in
       let q : length (take n (drop i s)) ≡ n = length-take-le n (drop i s) (omega (arith, length-drop i s)) in
       let f : find p (take n (drop i s)) ≡ Nothing = rw z at e in
-      find-run n i (drop i s) (omega (arith, length-drop i s))
+      find_run n i (drop i s) (omega (arith, length-drop i s))
       (λ k j. ap p (sym (get_or-take n (drop i s) k 0 j)) ∙ find_none (take n (drop i s)) 0 f k (omega arith))
       ∙ ap (find_from p (i + n)) (drop-drop n i s)
 
 -- bytes joined by `|`
-pub or-below : (a b : ℕ) → bit_or a b < 0x80 → (a < 0x80) × (b < 0x80)
-or-below a b h = omega (arith, or_add_and a b, and_le_l a b, and_le_r a b)
+pub or_below : (a b : ℕ) → bit_or a b < 0x80 → (a < 0x80) × (b < 0x80)
+or_below a b h = omega (arith, or_add_and a b, and_le_l a b, and_le_r a b)
 
 -- a test joined by `&` with that a byte is not b
-pub both-lack : (all : Bool) (x b : ℕ) → (all && not (eqb x b)) ≡ true → (all ≡ true) × (eqb b x ≡ false)
-both-lack true x b e = (refl, ne_eqb b x (λ h. eqb-false x b (not-true (eqb x b) e) (sym h)))
-both-lack false x b e = let z : ◌≡◌ {A = ℕ} 0 1 = cc in absurd (omega arith)
+pub both_lack : (all : Bool) (x b : ℕ) → (all && not (eqb x b)) ≡ true → (all ≡ true) × (eqb b x ≡ false)
+both_lack true x b e = (refl, ne_eqb b x (λ h. eqb-false x b (not-true (eqb x b) e) (sym h)))
+both_lack false x b e = let z : ◌≡◌ {A = ℕ} 0 1 = cc in absurd (omega arith)

@@ -16,9 +16,9 @@ pub both : (a b : Bool) → (a && b) ≡ true → (a ≡ true) × (b ≡ true)
 both true b e = (refl, e)
 both false b e = let z : ◌≡◌ {A = ℕ} 0 1 = cc in absurd (omega arith)
 
-pub byte-within : (l : List ℕ) (i lo hi : ℕ) → within l i lo hi ≡ true → (i < length l) × (lo ≤ get_or l i 0) × (get_or l i 0 ≤ hi)
+pub byte_within : (l : List ℕ) (i lo hi : ℕ) → within l i lo hi ≡ true → (i < length l) × (lo ≤ get_or l i 0) × (get_or l i 0 ≤ hi)
 unfolding within
-byte-within l i lo hi e =
+byte_within l i lo hi e =
     let p = both (ltb i (length l)) (leb lo (get_or l i 0) && leb (get_or l i 0) hi) e in
     let q = both (leb lo (get_or l i 0)) (leb (get_or l i 0) hi) p.1 in
     (ltb-true i (length l) p.0, leb-true lo (get_or l i 0) q.0, leb-true (get_or l i 0) hi q.1)
@@ -42,9 +42,9 @@ abbrev shaped : Row → Bool
 shaped [] = false
 shaped (r ∷ q) = (leb (length q) 3 && trails q) && (leb (floor (length q)) r.0 && (ltb r.1 0x80 || ltb 0xbf r.0))
 
-abbrev all-shaped : List Row → Bool
-all-shaped [] = true
-all-shaped (r ∷ rs) = shaped r && all-shaped rs
+abbrev all_shaped : List Row → Bool
+all_shaped [] = true
+all_shaped (r ∷ rs) = shaped r && all_shaped rs
 
 -- ---- n + 1 bytes of a sequence stand at the front of the list
 pub record Sequence (l : List ℕ) (n : ℕ) : Type 0 where
@@ -54,8 +54,8 @@ pub record Sequence (l : List ℕ) (n : ℕ) : Type 0 where
   pub first : continues (get_or l 0 0) ≡ false
   pub after : (k : ℕ) → k < n → continues (get_or l (suc k) 0) ≡ true
 
-not-continuing : (b lo hi : ℕ) → lo ≤ b → b ≤ hi → (ltb hi 0x80 || ltb 0xbf lo) ≡ true → continues b ≡ false
-not-continuing b lo hi h k e = go (ltb hi 0x80) refl e
+not_continuing : (b lo hi : ℕ) → lo ≤ b → b ≤ hi → (ltb hi 0x80 || ltb 0xbf lo) ≡ true → continues b ≡ false
+not_continuing b lo hi h k e = go (ltb hi 0x80) refl e
   where
     go : (t : Bool) → ltb hi 0x80 ≡ t → (t || ltb 0xbf lo) ≡ true → continues b ≡ false
     go true q e = rw (lt-leb 0x80 b (omega (arith, ltb-true hi 0x80 q)))
@@ -68,7 +68,7 @@ trailing l i (r ∷ q) h t m =
     let a = both (leb 0x80 r.0) (leb r.1 0xbf && trails q) t in
     let b = both (leb r.1 0xbf) (trails q) a.1 in
     let d = both (within l i r.0 r.1) (matches (suc i) q l) m in
-    let w = byte-within l i r.0 r.1 d.0 in
+    let w = byte_within l i r.0 r.1 d.0 in
     let rec = trailing l (suc i) q w.0 b.1 d.1 in
     let c : continues (get_or l i 0) ≡ true =
     continuing (get_or l i 0)
@@ -81,40 +81,40 @@ trailing l i (r ∷ q) h t m =
     go c f zero j = rw (add-zero i) c
     go c f (suc k) j = rw (add-suc i k, ← suc-add i k) (f k (le_of_suc-le-suc j))
 
-row-sequence : (l : List ℕ) (r : Row) (n : ℕ) → shaped r ≡ true → matches 0 r l ≡ true → length r ≡ suc n → Sequence l n
-row-sequence l [] n s m e = absurd (omega arith)
-row-sequence l (r ∷ q) n s m e =
+row_sequence : (l : List ℕ) (r : Row) (n : ℕ) → shaped r ≡ true → matches 0 r l ≡ true → length r ≡ suc n → Sequence l n
+row_sequence l [] n s m e = absurd (omega arith)
+row_sequence l (r ∷ q) n s m e =
     let a = both (leb (length q) 3 && trails q) (leb (floor (length q)) r.0 && (ltb r.1 0x80 || ltb 0xbf r.0)) s in
     let b = both (leb (length q) 3) (trails q) a.0 in
     let f = both (leb (floor (length q)) r.0) (ltb r.1 0x80 || ltb 0xbf r.0) a.1 in
     let d = both (within l 0 r.0 r.1) (matches 1 q l) m in
-    let w = byte-within l 0 r.0 r.1 d.0 in
+    let w = byte_within l 0 r.0 r.1 d.0 in
     let t = trailing l 1 q w.0 b.1 d.1 in
     let z : length q ≡ n = omega arith in
     subst (Sequence l) z (record {
       short = leb-true (length q) 3 b.0;
       long = omega (arith, t.0);
       lead = omega (arith, leb-true (floor (length q)) r.0 f.0, w.1);
-      first = not-continuing (get_or l 0 0) r.0 r.1 w.1 w.2 f.1;
+      first = not_continuing (get_or l 0 0) r.0 r.1 w.1 w.2 f.1;
       after = λ k j. rw (← zero-add k, ← suc-add 0 k) (t.1 k j);
     })
 
 pub sequence : (l : List ℕ) (n : ℕ) → width l ≡ suc n → Sequence l n
 unfolding width
-sequence l n e = of-rows table refl e
+sequence l n e = of_rows table refl e
   where
-    of-rows : (rs : List Row) → all-shaped rs ≡ true → width_by rs l ≡ suc n → Sequence l n
-    of-rows [] s e = absurd (omega arith)
-    of-rows (r ∷ rs) s e = go (matches 0 r l) refl e (of-rows rs (both (shaped r) (all-shaped rs) s).1)
+    of_rows : (rs : List Row) → all_shaped rs ≡ true → width_by rs l ≡ suc n → Sequence l n
+    of_rows [] s e = absurd (omega arith)
+    of_rows (r ∷ rs) s e = go (matches 0 r l) refl e (of_rows rs (both (shaped r) (all_shaped rs) s).1)
       where
         go : (t : Bool) → matches 0 r l ≡ t → cond t (length r) (width_by rs l) ≡ suc n → (width_by rs l ≡ suc n → Sequence l n)
             → Sequence l n
-        go true m q ih = row-sequence l r n (both (shaped r) (all-shaped rs) s).0 m q
+        go true m q ih = row_sequence l r n (both (shaped r) (all_shaped rs) s).0 m q
         go false m q ih = ih q
 
 -- ---- bounds of a width
-pub width-le : (l : List ℕ) → width l ≤ length l
-width-le l = go (width l) refl
+pub width_le : (l : List ℕ) → width l ≤ length l
+width_le l = go (width l) refl
   where
     go : (n : ℕ) → width l ≡ n → n ≤ length l
     go zero e = zero-le

@@ -1,10 +1,8 @@
 -- Worked examples, computed from the definitions.
-use Rattle.std.specs.Prelude.{ℕ, ◌≡◌, refl, Bool, true, false, List, [], ◌∷◌, map, drop, replicate, eqb}
-use Rattle.text.specs.declared.bytes.Found.{Found}
+use Rattle.std.specs.Prelude.{ℕ, ◌≡◌, refl, true, false, List, [], ◌∷◌, map, drop, replicate, eqb}
 use Rattle.text.specs.declared.bytes.Found.TheVariants.{At, Nothing}
 use Rattle.text.specs.declared.chars.Char.{Char}
 use Rattle.text.specs.declared.spans.Span.{Span}
-use Rattle.text.specs.declared.spans.Bounds.{Bounds}
 use Rattle.text.specs.declared.spans.Bounds.TheVariants.{Outside, Cuts, Empty, Good}
 use Rattle.text.specs.Bytes.{ascii, same, find_from, find, over_ascii}
 use Rattle.text.specs.Utf8.{within, width, after, ill_from, first_ill}
@@ -15,7 +13,7 @@ use Rattle.text.specs.Spans.{part_of, cuts_at, bounds_of}
 
 -- Unicode Standard, section 3.9, D92: the code points 004D, 0430, 4E8C and 10302 are 4D D0 B0 E4 BA 8C F0 90 8C 82; F4 80 83 92 is
 -- well-formed, C0 AF and E0 9F 80 are not. A text may also stop within a sequence, or go on with a byte that begins none.
-pub ill-formed :
+pub ill_formed :
     map first_ill
     ([]
     ∷ (0x4d ∷ 0xd0 ∷ 0xb0 ∷ 0xe4 ∷ 0xba ∷ 0x8c ∷ 0xf0 ∷ 0x90 ∷ 0x8c ∷ 0x82 ∷ [])
@@ -29,7 +27,7 @@ pub ill-formed :
     ∷ [])
     ≡ Nothing ∷ Nothing ∷ Nothing ∷ At 1 ∷ At 0 ∷ At 3 ∷ At 4 ∷ At 1 ∷ At 3 ∷ []
 unfolding first_ill ill_from after width within
-ill-formed = refl
+ill_formed = refl
 
 -- the widths at each place of nine bytes
 abbrev widths : List ℕ → List ℕ
@@ -92,21 +90,21 @@ unfolding char_of width within
 characters = refl
 
 -- ECMA-262, "White Space": TAB, VT, FF, ZWNBSP, and the code points of category Zs in the Unicode Character Database
-pub white-space :
+pub white_space :
     map is_white_space
     (0x09 ∷ 0x0b ∷ 0x0c ∷ 0xfeff ∷ 0x20 ∷ 0xa0 ∷ 0x1680 ∷ 0x2000 ∷ 0x2001 ∷ 0x2002 ∷ 0x2003 ∷ 0x2004 ∷ 0x2005 ∷ 0x2006 ∷ 0x2007
     ∷ 0x2008 ∷ 0x2009 ∷ 0x200a ∷ 0x202f ∷ 0x205f ∷ 0x3000 ∷ [])
     ≡ replicate 21 true
 unfolding is_white_space
-white-space = refl
+white_space = refl
 
 -- ECMA-262, "Line Terminators": LF, CR, LS, PS; none of them is white space
-pub line-terminators :
+pub line_terminators :
     (map is_line_terminator (0x0a ∷ 0x0d ∷ 0x2028 ∷ 0x2029 ∷ []) ≡ replicate 4 true)
     × (map is_white_space (0x0a ∷ 0x0d ∷ 0x2028 ∷ 0x2029 ∷ []) ≡ replicate 4 false)
     × (map is_line_terminator (0x09 ∷ 0x0b ∷ 0x0c ∷ 0x20 ∷ 0xa0 ∷ 0xfeff ∷ []) ≡ replicate 6 false)
 unfolding is_white_space is_line_terminator
-line-terminators = (refl, refl, refl)
+line_terminators = (refl, refl, refl)
 
 -- neither: NUL, NEL (U+0085), U+180E (once of category Zs), ZWSP (U+200B), WJ (U+2060) and the neighbours of the ranges
 pub neither :

@@ -27,14 +27,14 @@ pub record Left {A : Type 0} (f : A → List (List ℕ) → A) (s : List ℕ) (b
   pub same : f begun (words s) ≡ f a (words_from most s at)
 
 module _ {A : Type 0} (f : A → List (List ℕ) → A) (s : List ℕ) where
-  pub left-all : (a : A) → Left f s a 0 a
+  pub left_all : (a : A) → Left f s a 0 a
   unfolding words
-  left-all a = record { within = omega arith; most = length s; enough = omega arith; same = refl }
+  left_all a = record { within = omega arith; most = length s; enough = omega arith; same = refl }
 
   module _ {begun : A} {at : ℕ} {a : A} (left : Left f s begun at a) {w : Word} (ahead : w ≡ word_from s at) where
-    pub left-none : f a [] ≡ a → w.start ≡ w.end → f begun (words s) ≡ a
+    pub left_none : f a [] ≡ a → w.start ≡ w.end → f begun (words s) ≡ a
     unfolding words_from
-    left-none none e = left.same ∙ go left.most ∙ none
+    left_none none e = left.same ∙ go left.most ∙ none
       where
         go : (most : ℕ) → f a (words_from most s at) ≡ f a []
         go zero = refl

@@ -5,7 +5,7 @@ use Rattle.vectors.specs.Lines.{is_blank, is_in, place_from, word_from, words_fr
 use Rattle.vectors.specs.Values.{digit_of, mark_of, folded, is_hexadecimal, is_decimal, value_of}
 
 -- no word, one, two with blanks around them, words of one byte, a tab and a CR; LF is no blank
-pub words-of-texts :
+pub words_of_texts :
     map words
     ([]
     ∷ ascii "   "
@@ -24,9 +24,9 @@ pub words-of-texts :
     ∷ ((0x61 ∷ 0x0a ∷ 0x62 ∷ []) ∷ [])
     ∷ []
 unfolding words words_from word_from place_from find_from is_in is_blank
-words-of-texts = refl
+words_of_texts = refl
 
 -- numbers in three forms, and a word by the marks of its letters
-pub values-of-words : map value_of (words (ascii "12 0xff U+20AC ab")) ≡ 12 ∷ 255 ∷ 0x20ac ∷ 0x4000000000000022 ∷ []
+pub values_of_words : map value_of (words (ascii "12 0xff U+20AC ab")) ≡ 12 ∷ 255 ∷ 0x20ac ∷ 0x4000000000000022 ∷ []
 unfolding words words_from word_from place_from find_from is_in is_blank value_of is_hexadecimal is_decimal same folded mark_of digit_of
-values-of-words = refl
+values_of_words = refl

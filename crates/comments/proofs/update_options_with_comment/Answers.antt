@@ -5,7 +5,7 @@ use native.Mathlib.Omega.{arith}
 use lib.ListN.{length}
 use borrow.Author.Rules.{rules}
 use Rattle.definitions.specs.Comments.{comment_from, with_comment}
-use Rattle.comments.proofs.Values.{Comes, enter, ended, past, lies, onward, comment-fits}
+use Rattle.comments.proofs.Values.{Comes, enter, ended, past, lies, onward, comment_fits}
 use Rattle.comments.proofs.update_options_with_comment.Goals as goal
 use Rattle.comments.proofs.update_options_with_comment.Goals.{After-part-content, After-apply-held, Else-value-eq0}
 
@@ -16,7 +16,7 @@ unfolding with_comment
 whole c = ap (λ (l : List ℕ). comment_from (length l) c.args.options c.args.comment.start l 0) c.part-content.ensures
 
 fits : (c : After-part-content) → c.args.comment.start + length c.part-content.result.now ≤ 65535
-fits c = rw c.part-content.ensures (comment-fits _ _ c.requires (search rules))
+fits c = rw c.part-content.ensures (comment_fits _ _ c.requires (search rules))
 
 -- where the value lies
 place : (c : Else-value-eq0) → let f = c.find_jsx_pragma-value in

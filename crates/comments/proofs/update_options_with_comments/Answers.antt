@@ -1,6 +1,6 @@
 use mathlib.Core.Path.{refl, sym, ◌∙◌}
 use native.Mathlib.Omega.{arith}
-use Rattle.comments.proofs.Tapes.{comment-here, comment-elsewhere, comments-over}
+use Rattle.comments.proofs.Tapes.{comment_here, comment_elsewhere, comments_over}
 use Rattle.comments.proofs.update_options_with_comments.Goals as goal
 
 pub loop-i-init : goal.loop-i-init
@@ -10,7 +10,7 @@ pub loop-i-preserved-then-tape-at-eq-COMMENT : goal.loop-i-preserved-then-tape-a
 loop-i-preserved-then-tape-at-eq-COMMENT c = (
   omega arith,
   c.loop-i.invariant.1
-      ∙ comment-here _ _ c.args.tape.now _
+      ∙ comment_here _ _ c.args.tape.now _
       c.loop-i-test.true c.if-tape-at-eq-COMMENT.true
       ∙ sym (rw (c.update_options_with_comment-held.ensures, c.read_span.ensures)),
 )
@@ -19,9 +19,9 @@ pub loop-i-preserved : goal.loop-i-preserved
 loop-i-preserved c = (
   omega arith,
   c.loop-i.invariant.1
-      ∙ comment-elsewhere _ _ c.args.tape.now _ c.loop-i-test.true
+      ∙ comment_elsewhere _ _ c.args.tape.now _ c.loop-i-test.true
       c.if-tape-at-eq-COMMENT.false,
 )
 
 pub returns : goal.returns
-returns c = sym (c.loop-i.invariant.1 ∙ comments-over _ _ c.args.tape.now _ c.loop-i-test.false)
+returns c = sym (c.loop-i.invariant.1 ∙ comments_over _ _ c.args.tape.now _ c.loop-i-test.false)

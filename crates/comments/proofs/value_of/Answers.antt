@@ -6,7 +6,7 @@ use Rattle.definitions.specs.Comments.{or_else}
 use Rattle.text.proofs.Lists.{told}
 use Rattle.comments.specs.declared.Class.TheVariants.{White}
 use Rattle.comments.specs.Searches.{is_in}
-use Rattle.comments.proofs.Signs.{place-range}
+use Rattle.comments.proofs.Signs.{place_range}
 use Rattle.comments.proofs.value_of.Goals as goal
 
 pub returns-in_default : goal.returns-in_default
@@ -17,7 +17,7 @@ pub slice_bounds-result-end : goal.slice_bounds-result-end
 slice_bounds-result-end c =
     omega (
       arith,
-      place-range (is_in White) c.args.rest.now 0 c.in-At.n
+      place_range (is_in White) c.args.rest.now 0 c.in-At.n
           (told c.place_from.ensures c.in-At.is),
     )
 

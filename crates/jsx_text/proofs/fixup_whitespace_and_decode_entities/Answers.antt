@@ -7,34 +7,34 @@ use lib.ListN.{length}
 use Rattle.text.specs.declared.bytes.Found.TheVariants.{Nothing}
 use Rattle.text.specs.Utf8.{first_ill}
 use Rattle.text.specs.Spans.{part_of}
-use Rattle.tape.proofs.Targets.{wrote-length, wrote-small}
+use Rattle.tape.proofs.Targets.{wrote_length, wrote_small}
 use Rattle.jsx_text.specs.declared.Mark.{Mark}
 use Rattle.jsx_text.proofs.Characters.{size_of}
-use Rattle.jsx_text.proofs.Turns.{turn-start, turn-ink, turn-white, turn-moves, turn-blank, turn-line, last-inside, end_whole}
-use Rattle.jsx_text.proofs.Turns.{end-with-line, end-with-none, left-line, left_end, part-inside}
+use Rattle.jsx_text.proofs.Turns.{turn_start, turn_ink, turn_white, turn_moves, turn_blank, turn_line, last_inside, end_whole}
+use Rattle.jsx_text.proofs.Turns.{end_with_line, end_with_none, left_line, left_end, part_inside}
 use Rattle.jsx_text.proofs.fixup_whitespace_and_decode_entities.Goals as goal
 use Rattle.jsx_text.proofs.fixup_whitespace_and_decode_entities.Goals.{After-mark_at, At-loop-i}
 
 pub loop-i-init : goal.loop-i-init
 loop-i-init c =
-    rw c.part-chars.ensures (turn-start c.args.text.now c.args.span c.args.calls.now c.args.at c.requires.at_bound)
+    rw c.part-chars.ensures (turn_start c.args.text.now c.args.span c.args.calls.now c.args.at c.requires.at_bound)
 
 -- the text's part is well-formed, and where it is not empty its places fit a span
-chars-good : (c : At-loop-i) → first_ill c.part-chars.result.now ≡ Nothing
-chars-good c =
+chars_good : (c : At-loop-i) → first_ill c.part-chars.result.now ≡ Nothing
+chars_good c =
     rw c.part-chars.ensures c.requires.well_formed
 
-chars-short : (c : At-loop-i) → 0 < length c.part-chars.result.now
+chars_short : (c : At-loop-i) → 0 < length c.part-chars.result.now
     → c.args.span.start + length c.part-chars.result.now ≤ 65535
-chars-short c h =
+chars_short c h =
     let e : length c.part-chars.result.now ≡ length (part_of c.args.text.now c.args.span) =
     ap length c.part-chars.ensures in
-    omega (arith, e, c.requires.text_len_bound, part-inside c.args.text.now c.args.span (omega (arith, e, h)))
+    omega (arith, e, c.requires.text_len_bound, part_inside c.args.text.now c.args.span (omega (arith, e, h)))
 
 moves : (c : After-mark_at) (k : Mark) (w : ℕ) → c.mark_at.result ≡ k → size_of k ≡ w
     → (0 < w) × (c.loop-i.i + w ≤ length c.part-chars.result.now)
 moves c k w e f =
-    turn-moves _ _ _ _ _ _ _ _ _ _ c.loop-i.invariant ((let it : first_ill c.part-chars.result.now ≡ Nothing = rw c.part-chars.ensures c.requires.well_formed in it)) c.loop-i-test.true _ c.mark_at.ensures w k e f
+    turn_moves _ _ _ _ _ _ _ _ _ _ c.loop-i.invariant ((let it : first_ill c.part-chars.result.now ≡ Nothing = rw c.part-chars.ensures c.requires.well_formed in it)) c.loop-i-test.true _ c.mark_at.ensures w k e f
 
 pub overflow_add-i : goal.overflow_add-i
 unfolding size_of
@@ -47,7 +47,7 @@ loop-i-smaller-in-Ink c = omega (arith, moves (goal.at.loop-i-smaller-in-Ink c).
 pub loop-i-preserved-in-Ink : goal.loop-i-preserved-in-Ink
 loop-i-preserved-in-Ink c =
     rw c.earlier-first_non_whitespace.ensures
-    (turn-ink _ _ _ _ _ _ _ _ _ _ c.loop-i.invariant (chars-good (goal.at.loop-i-preserved-in-Ink c).At-loop-i) c.loop-i-test.true _ c.mark_at.ensures _
+    (turn_ink _ _ _ _ _ _ _ _ _ _ c.loop-i.invariant (chars_good (goal.at.loop-i-preserved-in-Ink c).At-loop-i) c.loop-i-test.true _ c.mark_at.ensures _
     c.in-Ink.is)
 
 pub overflow_add-i-in-White : goal.overflow_add-i-in-White
@@ -60,7 +60,7 @@ loop-i-smaller-in-White c = omega (arith, moves (goal.at.loop-i-smaller-in-White
 
 pub loop-i-preserved-in-White : goal.loop-i-preserved-in-White
 loop-i-preserved-in-White c =
-    turn-white _ _ _ _ _ _ _ _ _ _ c.loop-i.invariant (chars-good (goal.at.loop-i-preserved-in-White c).At-loop-i) c.loop-i-test.true _ c.mark_at.ensures _ c.in-White.is
+    turn_white _ _ _ _ _ _ _ _ _ _ c.loop-i.invariant (chars_good (goal.at.loop-i-preserved-in-White c).At-loop-i) c.loop-i-test.true _ c.mark_at.ensures _ c.in-White.is
 
 pub overflow_add-i-in-Terminator : goal.overflow_add-i-in-Terminator
 unfolding size_of
@@ -68,7 +68,7 @@ overflow_add-i-in-Terminator c = omega (arith, moves (goal.at.overflow_add-i-in-
 
 pub span_between-line-requires : goal.span_between-line-requires
 span_between-line-requires c =
-    (omega arith, omega (arith, last-inside _ _ _ _ _ _ _ _ _ _ c.loop-i.invariant, chars-short (goal.at.span_between-line-requires c).At-loop-i (omega arith)))
+    (omega arith, omega (arith, last_inside _ _ _ _ _ _ _ _ _ _ c.loop-i.invariant, chars_short (goal.at.span_between-line-requires c).At-loop-i (omega arith)))
 
 pub loop-i-smaller-then-first_non_whitespace-last_non_whitespace : goal.loop-i-smaller-then-first_non_whitespace-last_non_whitespace
 unfolding size_of
@@ -77,8 +77,8 @@ loop-i-smaller-then-first_non_whitespace-last_non_whitespace c =
 
 pub loop-i-preserved-then-first_non_whitespace-last_non_whitespace : goal.loop-i-preserved-then-first_non_whitespace-last_non_whitespace
 loop-i-preserved-then-first_non_whitespace-last_non_whitespace c =
-    turn-line _ _ _ _ _ _ _ _ _ _ c.loop-i.invariant
-    (chars-good (goal.at.loop-i-preserved-then-first_non_whitespace-last_non_whitespace c).At-loop-i)
+    turn_line _ _ _ _ _ _ _ _ _ _ c.loop-i.invariant
+    (chars_good (goal.at.loop-i-preserved-then-first_non_whitespace-last_non_whitespace c).At-loop-i)
     c.loop-i-test.true _
     c.mark_at.ensures _
     c.in-Terminator.is c.if-first_non_whitespace-last_non_whitespace.true _
@@ -91,20 +91,20 @@ loop-i-smaller c = omega (arith, moves (goal.at.loop-i-smaller c).After-mark_at 
 
 pub loop-i-preserved : goal.loop-i-preserved
 loop-i-preserved c =
-    turn-blank _ _ _ _ _ _ _ _ _ _ c.loop-i.invariant (chars-good (goal.at.loop-i-preserved c).At-loop-i) c.loop-i-test.true _ c.mark_at.ensures _
+    turn_blank _ _ _ _ _ _ _ _ _ _ c.loop-i.invariant (chars_good (goal.at.loop-i-preserved c).At-loop-i) c.loop-i-test.true _ c.mark_at.ensures _
     c.in-Terminator.is c.if-first_non_whitespace-last_non_whitespace.false
 
 pub end_of_jsx_text-requires : goal.end_of_jsx_text-requires
-end_of_jsx_text-requires c = wrote-small c.add_line_of_jsx_text-whole.ensures.wrote
+end_of_jsx_text-requires c = wrote_small c.add_line_of_jsx_text-whole.ensures.wrote
 
 pub shape_of-calls-then-first_non_whitespace-eq0 : goal.shape_of-calls-then-first_non_whitespace-eq0
 shape_of-calls-then-first_non_whitespace-eq0 c =
-    wrote-length c.end_of_jsx_text.ensures.wrote ∙ wrote-length c.add_line_of_jsx_text-whole.ensures.wrote ∙ c.loop-i.invariant.left.long
+    wrote_length c.end_of_jsx_text.ensures.wrote ∙ wrote_length c.add_line_of_jsx_text-whole.ensures.wrote ∙ c.loop-i.invariant.left.long
 
 pub returns-then-first_non_whitespace-eq0 : goal.returns-then-first_non_whitespace-eq0
 returns-then-first_non_whitespace-eq0 c =
     let it = left_end _ _ _ _ _
-    (left-line _ _ _ _ _ _ _
+    (left_line _ _ _ _ _ _ _
     (end_whole _ _ _ _ _ _ _ _ _ _ c.loop-i.invariant
     c.loop-i-test.false
     c.if-first_non_whitespace-eq0.true) _ _
@@ -114,20 +114,20 @@ returns-then-first_non_whitespace-eq0 c =
     record { wrote = it.0; survives = it.1 }
 
 pub span_between-line-requires-then-first_non_whitespace-chars : goal.span_between-line-requires-then-first_non_whitespace-chars
-span_between-line-requires-then-first_non_whitespace-chars c = (omega arith, omega (arith, chars-short (goal.at.span_between-line-requires-then-first_non_whitespace-chars c).At-loop-i (omega arith)))
+span_between-line-requires-then-first_non_whitespace-chars c = (omega arith, omega (arith, chars_short (goal.at.span_between-line-requires-then-first_non_whitespace-chars c).At-loop-i (omega arith)))
 
 pub end_of_jsx_text-requires-then-first_non_whitespace-chars : goal.end_of_jsx_text-requires-then-first_non_whitespace-chars
-end_of_jsx_text-requires-then-first_non_whitespace-chars c = wrote-small c.add_line_of_jsx_text-last.ensures.wrote
+end_of_jsx_text-requires-then-first_non_whitespace-chars c = wrote_small c.add_line_of_jsx_text-last.ensures.wrote
 
 pub shape_of-calls-then-first_non_whitespace-chars : goal.shape_of-calls-then-first_non_whitespace-chars
 shape_of-calls-then-first_non_whitespace-chars c =
-    wrote-length c.end_of_jsx_text-then-first_non_whitespace-chars.ensures.wrote ∙ wrote-length c.add_line_of_jsx_text-last.ensures.wrote ∙ c.loop-i.invariant.left.long
+    wrote_length c.end_of_jsx_text-then-first_non_whitespace-chars.ensures.wrote ∙ wrote_length c.add_line_of_jsx_text-last.ensures.wrote ∙ c.loop-i.invariant.left.long
 
 pub returns-then-first_non_whitespace-chars : goal.returns-then-first_non_whitespace-chars
 returns-then-first_non_whitespace-chars c =
     let it = left_end _ _ _ _ _
-    (left-line _ _ _ _ _ _ _
-    (end-with-line _ _ _ _ _ _ _ _ _ _
+    (left_line _ _ _ _ _ _ _
+    (end_with_line _ _ _ _ _ _ _ _ _ _
     c.loop-i.invariant
     c.loop-i-test.false
     c.if-first_non_whitespace-eq0.false
@@ -143,11 +143,11 @@ end_of_jsx_text-requires-2 c = c.loop-i.invariant.left.small
 
 pub shape_of-calls : goal.shape_of-calls
 shape_of-calls c =
-    wrote-length c.end_of_jsx_text-2.ensures.wrote ∙ c.loop-i.invariant.left.long
+    wrote_length c.end_of_jsx_text-2.ensures.wrote ∙ c.loop-i.invariant.left.long
 
 pub returns : goal.returns
 returns c =
     let it = left_end _ _ _ _ _
-    (end-with-none _ _ _ _ _ _ _ _ _ _ c.loop-i.invariant c.loop-i-test.false c.if-first_non_whitespace-eq0.false c.if-first_non_whitespace-chars.false) _ _
+    (end_with_none _ _ _ _ _ _ _ _ _ _ c.loop-i.invariant c.loop-i-test.false c.if-first_non_whitespace-eq0.false c.if-first_non_whitespace-chars.false) _ _
     c.end_of_jsx_text-2.ensures.wrote c.end_of_jsx_text-2.ensures.survives in
     record { wrote = it.0; survives = it.1 }

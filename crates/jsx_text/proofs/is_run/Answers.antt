@@ -4,7 +4,7 @@ use Prim.Native.Nat.{ℕ}
 use native.Mathlib.Omega.{arith}
 use lib.ListN.{get_or}
 use Rattle.jsx_text.specs.Marks.{Run}
-use Rattle.jsx_text.proofs.Runs.{run_none, run_more, run-tests}
+use Rattle.jsx_text.proofs.Runs.{run_none, run_more, run_tests}
 use Rattle.jsx_text.proofs.is_run.Goals as goal
 
 pub loop-i-init : goal.loop-i-init
@@ -19,7 +19,7 @@ loop-i-smaller c = omega arith
 pub loop-i-preserved : goal.loop-i-preserved
 loop-i-preserved c = (
   omega arith,
-  λ h. let t = run-tests c.loop-i.all c.args.lo (get_or c.args.s.now c.loop-i.i 0) c.args.hi h in
+  λ h. let t = run_tests c.loop-i.all c.args.lo (get_or c.args.s.now c.loop-i.i 0) c.args.hi h in
       run_more _ _ _ _ _ (c.loop-i.invariant.1 t.0) c.loop-i-test.true t.1 t.2,
 )
 

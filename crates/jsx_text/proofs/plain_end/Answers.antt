@@ -1,7 +1,7 @@
 -- `jsx_text::plain_end` meets its contract. The loop's invariant: there is a run to `to`, and it is not empty. Assumes nothing.
 use Prim.Native.Nat.{◌-◌}
 use native.Mathlib.Omega.{arith}
-use Rattle.jsx_text.proofs.Runs.{run-front, run-less, not_first}
+use Rattle.jsx_text.proofs.Runs.{run_front, run_less, not_first}
 use Rattle.jsx_text.proofs.plain_end.Goals as goal
 
 pub overflow_add-i : goal.overflow_add-i
@@ -11,7 +11,7 @@ pub run_end-to-requires : goal.run_end-to-requires
 run_end-to-requires c = omega arith
 
 pub loop-to-init : goal.loop-to-init
-loop-to-init c = (omega (arith, c.run_end-to.ensures.forward), run-front _ _ _ _ _ (omega arith) (omega arith) c.run_end-to.ensures)
+loop-to-init c = (omega (arith, c.run_end-to.ensures.forward), run_front _ _ _ _ _ (omega arith) (omega arith) c.run_end-to.ensures)
 
 pub overflow_sub-to : goal.overflow_sub-to
 overflow_sub-to c = omega arith
@@ -28,7 +28,7 @@ loop-to-smaller c = omega arith
 pub loop-to-preserved : goal.loop-to-preserved
 loop-to-preserved c = (
   not_first c.args.s.now c.args.i c.loop-to.to c.requires.bound.0 c.loop-to.invariant.0 c.loop-to-test.true,
-  run-less _ _ _ _ _ c.loop-to.invariant.1 c.loop-to.invariant.0,
+  run_less _ _ _ _ _ c.loop-to.invariant.1 c.loop-to.invariant.0,
 )
 
 pub returns : goal.returns

@@ -1,6 +1,6 @@
 -- `jsx_text::run_blocks` meets its contract. The loop's invariant: the bytes passed are a run. Assumes nothing.
 use native.Mathlib.Omega.{arith}
-use Rattle.jsx_text.proofs.Runs.{run_none, run-block}
+use Rattle.jsx_text.proofs.Runs.{run_none, run_block}
 use Rattle.jsx_text.proofs.run_blocks.Goals as goal
 
 pub loop-to-init : goal.loop-to-init
@@ -23,7 +23,7 @@ loop-to-smaller c = omega (arith, c.loop-to.invariant.inside)
 
 pub loop-to-preserved : goal.loop-to-preserved
 loop-to-preserved c =
-    run-block _ _ _ _ _ 16 c.loop-to.invariant (omega (arith, c.loop-to.invariant.inside)) (c.is_run.ensures c.if-not-is_run.false)
+    run_block _ _ _ _ _ 16 c.loop-to.invariant (omega (arith, c.loop-to.invariant.inside)) (c.is_run.ensures c.if-not-is_run.false)
 
 pub returns : goal.returns
 returns c = c.loop-to.invariant

@@ -1,12 +1,12 @@
 -- A whole job: laws of proofs/Jobs, by what each of its parts answered.
-use Rattle.jsxlib.proofs.Jobs.{opening-refused, root-refused, job-done, job_is}
+use Rattle.jsxlib.proofs.Jobs.{opening_refused, root_refused, job_done, job_is}
 use Rattle.jsxlib.proofs.jsx_job.Goals as goal
 
 pub returns-in-Refused : goal.returns-in-Refused
 returns-in-Refused c =
     let a = c.args in
     job_is a.text.now a.job.now a.roots.now a.calls.now a.notices.now a.records.now
-    (opening-refused a.text.now a.job.now a.roots.now a.calls.now a.notices.now a.records.now _
+    (opening_refused a.text.now a.job.now a.roots.now a.calls.now a.notices.now a.records.now _
     c.open_job-opening.ensures.value c.open_job-opening.ensures.notices_after c.in-Refused.is c.number_by.ensures
     c.figure_by.ensures)
 
@@ -15,7 +15,7 @@ returns-in-Refused-told c =
     let a = c.args in
     let l = c.lower_list-lowered.ensures in
     job_is a.text.now a.job.now a.roots.now a.calls.now a.notices.now a.records.now
-    (root-refused a.text.now a.job.now a.roots.now a.calls.now a.notices.now a.records.now _
+    (root_refused a.text.now a.job.now a.roots.now a.calls.now a.notices.now a.records.now _
     c.open_job-opening.ensures.value c.open_job-opening.ensures.notices_after c.in-Accepted.is
     l.answer_value l.taken_value l.left c.in-Refused-told.is c.number_by-in-Refused-told.ensures c.figure_by-in-Refused-told.ensures)
 
@@ -25,6 +25,6 @@ returns-in-Accepted-told c =
     let l = c.lower_list-lowered.ensures in
     let t = c.tell_records.ensures in
     job_is a.text.now a.job.now a.roots.now a.calls.now a.notices.now a.records.now
-    (job-done a.text.now a.job.now a.roots.now a.calls.now a.notices.now a.records.now _
+    (job_done a.text.now a.job.now a.roots.now a.calls.now a.notices.now a.records.now _
     c.open_job-opening.ensures.value c.open_job-opening.ensures.notices_after c.in-Accepted.is
     l.answer_value l.taken_value l.left c.in-Accepted-told.is t.number t.figure_after t.target_after)

@@ -1,8 +1,8 @@
 use native.Mathlib.Omega.{arith}
-use Rattle.jsxseries.proofs.Runs.{records-within}
+use Rattle.jsxseries.proofs.Runs.{records_within}
 use Rattle.jsxseries.proofs.print_records.Goals as goal
 
 pub slice_bounds-print_line-end-in-Accepted : goal.slice_bounds-print_line-end-in-Accepted
 slice_bounds-print_line-end-in-Accepted g c =
     let a = c.args in
-    omega (arith, records-within a.text.now a.state _ _ _ c.write_records.ensures.value c.in-Accepted.is)
+    omega (arith, records_within a.text.now a.state _ _ _ c.write_records.ensures.value c.in-Accepted.is)

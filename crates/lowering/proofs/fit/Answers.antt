@@ -1,6 +1,6 @@
 use native.Mathlib.Omega.{arith}
-use Rattle.lowering.proofs.Judging.{few-records}
-use Rattle.lowering.proofs.Running.{Counted, counts, no_number, no_bound, no-notice-room, all-fits}
+use Rattle.lowering.proofs.Judging.{few_records}
+use Rattle.lowering.proofs.Running.{Counted, counts, no_number, no_bound, no_notice_room, all_fits}
 use Rattle.lowering.proofs.fit.Goals as goal
 use Rattle.lowering.proofs.fit.Goals.{After-lower-pen}
 
@@ -12,7 +12,7 @@ told c =
 
 pub pen_over-requires : goal.pen_over-requires
 pen_over-requires c =
-    few-records c.requires.unforged
+    few_records c.requires.unforged
 
 pub lower-pen-requires : goal.lower-pen-requires
 lower-pen-requires c = record {
@@ -25,7 +25,7 @@ returns-then-pen c = no_number (told (goal.at.returns-then-pen c).After-lower-pe
 
 pub overflow_sub-call_room : goal.overflow_sub-call_room
 overflow_sub-call_room c =
-    c.requires.unforged.calls-within
+    c.requires.unforged.calls_within
 
 pub returns-then-call_room-state : goal.returns-then-call_room-state
 returns-then-call_room-state c =
@@ -33,12 +33,12 @@ returns-then-call_room-state c =
 
 pub overflow_sub-notice_room : goal.overflow_sub-notice_room
 overflow_sub-notice_room c =
-    c.requires.unforged.notices-within
+    c.requires.unforged.notices_within
 
 pub returns-then-notice_room-state : goal.returns-then-notice_room-state
 returns-then-notice_room-state c =
-    no-notice-room (told (goal.at.returns-then-notice_room-state c).After-lower-pen) c.if-pen.false c.if-call_room-state.false c.if-notice_room-state.true
+    no_notice_room (told (goal.at.returns-then-notice_room-state c).After-lower-pen) c.if-pen.false c.if-call_room-state.false c.if-notice_room-state.true
 
 pub returns : goal.returns
 returns c =
-    all-fits (told (goal.at.returns c).After-lower-pen) c.if-pen.false c.if-call_room-state.false c.if-notice_room-state.false
+    all_fits (told (goal.at.returns c).After-lower-pen) c.if-pen.false c.if-call_room-state.false c.if-notice_room-state.false

@@ -1,21 +1,21 @@
 -- `lowering::lower_checked` meets its contract: where there is room for all that the tape can give, the root is accepted uncounted. Assumes nothing.
 use Rattle.text.proofs.Lists.{told}
-use Rattle.lowering.proofs.Judging.{not-fitting}
-use Rattle.lowering.proofs.Running.{surely-fits}
+use Rattle.lowering.proofs.Judging.{not_fitting}
+use Rattle.lowering.proofs.Running.{surely_fits}
 use Rattle.lowering.proofs.lower_checked.Goals as goal
 
 pub overflow_sub-calls : goal.overflow_sub-calls
 overflow_sub-calls c =
-    c.requires.unforged.calls-within
+    c.requires.unforged.calls_within
 
 pub overflow_sub-notices : goal.overflow_sub-notices
 overflow_sub-notices c =
-    c.requires.unforged.notices-within
+    c.requires.unforged.notices_within
 
 pub write-requires : goal.write-requires
 write-requires c = record {
   ready = c.requires;
-  notices_value = surely-fits c.requires c.call_size_bound.ensures.holds_calls c.if-call_size_bound-calls.true c.if-tape-notices.true;
+  notices_value = surely_fits c.requires c.call_size_bound.ensures.holds_calls c.if-call_size_bound-calls.true c.if-tape-notices.true;
 }
 
 pub returns-then-tape-notices : goal.returns-then-tape-notices
@@ -34,7 +34,7 @@ write-requires-in-Accepted c = record {
 pub returns-in-Refused : goal.returns-in-Refused
 returns-in-Refused c =
     let a = c.args in
-    not-fitting a.text.now a.state a.tape.now a.calls.now a.notices.now (told c.fit.ensures c.in-Refused.is) c.refused.ensures
+    not_fitting a.text.now a.state a.tape.now a.calls.now a.notices.now (told c.fit.ensures c.in-Refused.is) c.refused.ensures
 
 pub returns-in-Accepted : goal.returns-in-Accepted
 returns-in-Accepted c = c.write-in-Accepted.ensures

@@ -1,11 +1,11 @@
 use native.Mathlib.Omega.{arith}
-use Rattle.lowering.proofs.Judging.{few-records}
+use Rattle.lowering.proofs.Judging.{few_records}
 use Rattle.lowering.proofs.Running.{written}
 use Rattle.lowering.proofs.write.Goals as goal
 
 pub pen_over-requires : goal.pen_over-requires
 pen_over-requires c =
-    few-records c.requires.ready.unforged
+    few_records c.requires.ready.unforged
 
 pub lower-pen-requires : goal.lower-pen-requires
 lower-pen-requires c = record {

@@ -5,14 +5,14 @@ use lib.ListN.{drop_of_length-le, length}
 use Rattle.definitions.specs.Pragmas.{is_one_of}
 use Rattle.text.proofs.Lists.{told}
 use Rattle.pragma.specs.Parts.{parts_behind}
-use Rattle.pragma.proofs.Splitting.{part-inside, word-hit, word_on}
+use Rattle.pragma.proofs.Splitting.{part_inside, word_hit, word_on}
 use Rattle.pragma.proofs.is_one_of.Goals as goal
 use Rattle.pragma.proofs.is_one_of.Goals.{After-first_length}
 
 inside : (c : After-first_length)
     → c.loop-i.i + 1 + c.first_length.result ≤ length c.args.words.now
 inside c =
-    part-inside c.args.words.now _ _ c.loop-i-test.true
+    part_inside c.args.words.now _ _ c.loop-i-test.true
     c.first_length.ensures
 
 pub loop-i-init : goal.loop-i-init
@@ -28,7 +28,7 @@ pub returns-then-same : goal.returns-then-same
 returns-then-same c =
     sym
     (c.loop-i.invariant
-    ∙ word-hit _ c.args.words.now _ _
+    ∙ word_hit _ c.args.words.now _ _
     c.loop-i-test.true c.first_length.ensures
     (told c.same.ensures c.if-same.true))
 

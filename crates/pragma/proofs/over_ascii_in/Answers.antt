@@ -5,7 +5,7 @@ use Rattle.text.specs.Bytes.{find, over_ascii}
 use Rattle.text.specs.Spans.{part_of}
 use Rattle.definitions.specs.Opening.{shifted, over_ascii_in}
 use Rattle.text.proofs.Lists.{told}
-use Rattle.text.proofs.Searching.{find-found}
+use Rattle.text.proofs.Searching.{find_found}
 use Rattle.pragma.proofs.over_ascii_in.Goals as goal
 
 pub returns-in_default : goal.returns-in_default
@@ -26,7 +26,7 @@ overflow_add-result c =
     ∙ ap (find over_ascii) c.part.ensures) c.in-At.is in
     omega (
       arith,
-      (find-found over_ascii (part_of c.args.text.now s)
+      (find_found over_ascii (part_of c.args.text.now s)
           c.in-At.place e).inside,
       length-take s.len (drop s.start c.args.text.now),
     )

@@ -3,7 +3,7 @@ use native.Mathlib.Omega.{arith}
 use lib.ListN.{length-take, drop}
 use Rattle.text.specs.Spans.{part_of}
 use Rattle.definitions.specs.Pragmas.{pragma_of, behind_place, pragma_in}
-use Rattle.definitions.proofs.OpeningNotices.{part-within}
+use Rattle.definitions.proofs.OpeningNotices.{part_within}
 use Rattle.text.proofs.Lists.{told}
 use Rattle.pragma.proofs.parse_no_ctx.Goals as goal
 
@@ -12,7 +12,7 @@ unfolding part_of
 overflow_add-offset c =
     let s = c.in-Present.span in
     let e = told (c.parse_impl.ensures ∙ ap pragma_of c.part.ensures) c.in-Invalid.is in
-    omega (arith, part-within (part_of c.args.text.now s) _ _ e, length-take s.len (drop s.start c.args.text.now))
+    omega (arith, part_within (part_of c.args.text.now s) _ _ e, length-take s.len (drop s.start c.args.text.now))
 
 pub returns-in-Absent : goal.returns-in-Absent
 unfolding pragma_in

@@ -3,14 +3,14 @@ use Prim.Native.Nat.{◌≤◌, ◌+◌}
 use native.Mathlib.Omega.{arith}
 use lib.ListN.{length}
 use Rattle.text.proofs.Lists.{told}
-use Rattle.pragma.proofs.Splitting.{part-inside, tail-end, tail-bad, tail-on}
+use Rattle.pragma.proofs.Splitting.{part_inside, tail_end, tail_bad, tail_on}
 use Rattle.pragma.proofs.read_tail.Goals as goal
 use Rattle.pragma.proofs.read_tail.Goals.{After-first_length}
 
 inside : (c : After-first_length)
     → c.loop-i.i + 1 + c.first_length.result ≤ length c.args.pragma.now
 inside c =
-    part-inside c.args.pragma.now _ _ c.loop-i-test.true
+    part_inside c.args.pragma.now _ _ c.loop-i-test.true
     c.first_length.ensures
 
 pub loop-i-init : goal.loop-i-init
@@ -25,7 +25,7 @@ slice_bounds-is_identifier_name-end c = inside (goal.at.slice_bounds-is_identifi
 pub returns-then-not-is_identifier_name : goal.returns-then-not-is_identifier_name
 returns-then-not-is_identifier_name c =
     sym (c.loop-i.invariant.1
-    ∙ tail-bad _ _ c.args.pragma.now _ _
+    ∙ tail_bad _ _ c.args.pragma.now _ _
     c.loop-i-test.true c.first_length.ensures
     (told c.is_identifier_name.ensures c.if-not-is_identifier_name.true))
 
@@ -39,10 +39,10 @@ pub loop-i-preserved : goal.loop-i-preserved
 loop-i-preserved c = (
   omega arith,
   c.loop-i.invariant.1
-      ∙ tail-on _ _ c.args.pragma.now _ _
+      ∙ tail_on _ _ c.args.pragma.now _ _
       c.loop-i-test.true c.first_length.ensures
       (told c.is_identifier_name.ensures c.if-not-is_identifier_name.false),
 )
 
 pub returns : goal.returns
-returns c = sym (c.loop-i.invariant.1 ∙ tail-end _ _ _ _ c.loop-i-test.false)
+returns c = sym (c.loop-i.invariant.1 ∙ tail_end _ _ _ _ c.loop-i-test.false)

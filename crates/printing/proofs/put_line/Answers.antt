@@ -1,9 +1,9 @@
-use Rattle.tape.proofs.Targets.{wrote_then, wrote-small}
+use Rattle.tape.proofs.Targets.{wrote_then, wrote_small}
 use native.Mathlib.Omega.{arith}
 use Rattle.printing.proofs.put_line.Goals as goal
 
 pub put_bytes-filled-requires : goal.put_bytes-filled-requires
-put_bytes-filled-requires c = wrote-small c.put_slice-worded.ensures
+put_bytes-filled-requires c = wrote_small c.put_slice-worded.ensures
 
 pub returns : goal.returns
 returns c =

@@ -1,9 +1,8 @@
 -- `references::run_end` meets its contract. The loop's invariant: from place i on the run has the same end. Assumes nothing.
 use mathlib.Core.Path.{refl, sym, ◌∙◌}
-use Prim.Native.Nat.{◌-◌}
 use native.Mathlib.Omega.{arith}
 use Rattle.text.proofs.Lists.{told}
-use Rattle.references.proofs.Runs.{run_more, run-stop, run_out}
+use Rattle.references.proofs.Runs.{run_more, run_stop, run_out}
 use borrow.Author.Rules.{rules}
 use Rattle.references.proofs.run_end.Goals as goal
 
@@ -11,7 +10,7 @@ pub loop-i-init : goal.loop-i-init
 loop-i-init c = (search rules, refl)
 
 pub returns-then-not-is_of : goal.returns-then-not-is_of
-returns-then-not-is_of c = sym (c.loop-i.invariant.1 ∙ run-stop _ _ _ c.loop-i-test.true (told c.is_of.ensures c.if-not-is_of.true))
+returns-then-not-is_of c = sym (c.loop-i.invariant.1 ∙ run_stop _ _ _ c.loop-i-test.true (told c.is_of.ensures c.if-not-is_of.true))
 
 pub overflow_add-i : goal.overflow_add-i
 overflow_add-i c = omega arith

@@ -1,29 +1,29 @@
 use mathlib.Core.Path.{sym}
 use Rattle.packing.specs.Packed.{settings_bytes}
-use Rattle.packing.proofs.Bytes.{settings-length}
+use Rattle.packing.proofs.Bytes.{settings_length}
 use Rattle.resolved.specs.Resolved.{judge_settings}
-use Rattle.store.proofs.Writing.{state-refused, state-accepted}
-use Rattle.resolved.proofs.Writing.{crowded-by, roomy-by}
+use Rattle.store.proofs.Writing.{state_refused, state_accepted}
+use Rattle.resolved.proofs.Writing.{crowded_by, roomy_by}
 use Rattle.resolved.proofs.write_settings.Goals as goal
 
 pub returns-then-target-lt-SETTINGS_SIZE : goal.returns-then-target-lt-SETTINGS_SIZE
 unfolding judge_settings
 returns-then-target-lt-SETTINGS_SIZE c =
     let a = c.args in
-    let it = state-accepted _ _ c.judge_state.ensures _ _ c.in-Accepted.is
-    (crowded-by (settings_bytes a.state.settings) a.target.now (sym (settings-length a.state.settings)) c.if-target-lt-SETTINGS_SIZE.true) in
+    let it = state_accepted _ _ c.judge_state.ensures _ _ c.in-Accepted.is
+    (crowded_by (settings_bytes a.state.settings) a.target.now (sym (settings_length a.state.settings)) c.if-target-lt-SETTINGS_SIZE.true) in
     record { value = it.0; target_after = it.1 }
 
 pub returns-in-Refused : goal.returns-in-Refused
 unfolding judge_settings
 returns-in-Refused c =
-    let it = state-refused _ _ c.judge_state.ensures _ _ _ c.in-Refused.is in
+    let it = state_refused _ _ c.judge_state.ensures _ _ _ c.in-Refused.is in
     record { value = it.0; target_after = it.1 }
 
 pub returns-else-target-lt-SETTINGS_SIZE : goal.returns-else-target-lt-SETTINGS_SIZE
 unfolding judge_settings
 returns-else-target-lt-SETTINGS_SIZE c =
     let a = c.args in
-    let it = state-accepted _ _ c.judge_state.ensures _ _ c.in-Accepted.is
-    (roomy-by (settings_bytes a.state.settings) a.target.now (sym (settings-length a.state.settings)) c.if-target-lt-SETTINGS_SIZE.false c.put_settings.ensures) in
+    let it = state_accepted _ _ c.judge_state.ensures _ _ c.in-Accepted.is
+    (roomy_by (settings_bytes a.state.settings) a.target.now (sym (settings_length a.state.settings)) c.if-target-lt-SETTINGS_SIZE.false c.put_settings.ensures) in
     record { value = it.0; target_after = it.1 }

@@ -5,8 +5,8 @@ use native.Mathlib.Omega.{arith}
 use native.Mathlib.Nat.{zero-add}
 use lib.ListN.{length}
 use Rattle.size_bound.specs.SizeBound.{size_bound, call_size_bound}
-use Rattle.size_bound.proofs.Passing.{texts-step, texts-end, passed-most}
-use Rattle.size_bound.proofs.SizeBounds.{told-bound, no_bound, bound-enough}
+use Rattle.size_bound.proofs.Passing.{texts_step, texts_end, passed_most}
+use Rattle.size_bound.proofs.SizeBounds.{told_bound, no_bound, bound_enough}
 use Rattle.size_bound.proofs.call_size_bound.Goals as goal
 
 pub returns-then-tape-gt-MAX_LENGTH : goal.returns-then-tape-gt-MAX_LENGTH
@@ -19,7 +19,7 @@ pub loop-at-init : goal.loop-at-init
 loop-at-init c = (zero-add _, omega arith, omega arith)
 
 pub overflow_add-at : goal.overflow_add-at
-overflow_add-at c = omega (arith, passed-most _ _ c.bytes_passed-at.ensures)
+overflow_add-at c = omega (arith, passed_most _ _ c.bytes_passed-at.ensures)
 
 pub loop-at-smaller : goal.loop-at-smaller
 loop-at-smaller c = omega arith
@@ -29,9 +29,9 @@ loop-at-preserved c =
     let tape = c.args.tape.now in
     let l = c.loop-at in
     let test = c.loop-at-test in (
-      rw c.bytes_passed-at.ensures (omega (arith, texts-step tape l.at test.true, c.text_length.ensures, l.invariant.0)),
+      rw c.bytes_passed-at.ensures (omega (arith, texts_step tape l.at test.true, c.text_length.ensures, l.invariant.0)),
       omega (arith, c.bytes_passed-at.ensures),
-      omega (arith, passed-most _ _ c.bytes_passed-at.ensures),
+      omega (arith, passed_most _ _ c.bytes_passed-at.ensures),
     )
 
 pub overflow_mul-result-2 : goal.overflow_mul-result-2
@@ -45,5 +45,5 @@ unfolding size_bound
 returns c =
     let tape = c.args.tape.now in
     let l = c.loop-at in
-    let e : 4 * length tape + 6 * l.texts ≡ call_size_bound tape = omega (arith, told-bound tape c.if-tape-gt-MAX_LENGTH.false, texts-end tape l.at c.loop-at-test.false, l.invariant.0) in
-    record { value = e; holds_calls = rw e (bound-enough tape) }
+    let e : 4 * length tape + 6 * l.texts ≡ call_size_bound tape = omega (arith, told_bound tape c.if-tape-gt-MAX_LENGTH.false, texts_end tape l.at c.loop-at-test.false, l.invariant.0) in
+    record { value = e; holds_calls = rw e (bound_enough tape) }

@@ -1,11 +1,11 @@
 use borrow.Author.Tests.{lt-ltb, le-ltb, ne_eqb}
 use Rattle.commands.specs.Opening.{flags_command}
-use Rattle.commands.proofs.Operands.{at-end, at_first}
+use Rattle.commands.proofs.Operands.{at_the_end, at_first}
 use Rattle.commands.proofs.opening.flags_command_at.Goals as goal
 
 pub returns-then-tape-eq0 : goal.returns-then-tape-eq0
 unfolding flags_command
-returns-then-tape-eq0 c = rw (at-end flags_command _ c.if-tape-eq0.true)
+returns-then-tape-eq0 c = rw (at_the_end flags_command _ c.if-tape-eq0.true)
 
 pub returns-then-tape-ne-FLAGS : goal.returns-then-tape-ne-FLAGS
 unfolding flags_command

@@ -5,12 +5,12 @@ use mathlib.Core.Path.{ap}
 use borrow.Author.Tests.{lt-ltb, le-ltb, ne_eqb}
 use Rattle.commands.specs.Opening.{option_command}
 use Rattle.commands.specs.declared.opening.OptionCommand.TheVariants.{Pragma, PragmaFrag, ImportSource, Comment}
-use Rattle.commands.proofs.Operands.{at-end, at_first}
+use Rattle.commands.proofs.Operands.{at_the_end, at_first}
 use Rattle.commands.proofs.opening.option_command_at.Goals as goal
 
 pub returns-then-tape-eq0 : goal.returns-then-tape-eq0
 unfolding option_command
-returns-then-tape-eq0 c = rw (at-end (option_command _) _ c.if-tape-eq0.true)
+returns-then-tape-eq0 c = rw (at_the_end (option_command _) _ c.if-tape-eq0.true)
 
 pub returns-then-rest-lt-SPAN : goal.returns-then-rest-lt-SPAN
 unfolding option_command

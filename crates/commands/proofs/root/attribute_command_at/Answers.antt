@@ -4,12 +4,12 @@ use mathlib.Core.Path.{ap₂, ap}
 use borrow.Author.Tests.{lt-ltb, le-ltb, ne_eqb}
 use Rattle.commands.specs.Root.{attribute_command}
 use Rattle.commands.specs.declared.root.AttributeCommand.TheVariants as attribute
-use Rattle.commands.proofs.Operands.{at-end, at_first}
+use Rattle.commands.proofs.Operands.{at_the_end, at_first}
 use Rattle.commands.proofs.root.attribute_command_at.Goals as goal
 
 pub returns-then-tape-eq0 : goal.returns-then-tape-eq0
 unfolding attribute_command
-returns-then-tape-eq0 c = rw (at-end attribute_command _ c.if-tape-eq0.true)
+returns-then-tape-eq0 c = rw (at_the_end attribute_command _ c.if-tape-eq0.true)
 
 pub returns-then-rest-lt-SPAN : goal.returns-then-rest-lt-SPAN
 unfolding attribute_command

@@ -8,7 +8,7 @@ use lib.ListN.{length, get_or}
 use borrow.Author.Tests.{le-leb, lt-leb, ne_eqb}
 use Rattle.commands.specs.Root.{heritage_command}
 use Rattle.commands.specs.declared.root.HeritageCommand.TheVariants as heritage
-use Rattle.commands.proofs.Operands.{at-end, at_first}
+use Rattle.commands.proofs.Operands.{at_the_end, at_first}
 use Rattle.commands.proofs.root.heritage_command_at.Goals as goal
 
 cut : (t : List ℕ) → length t < 1 → heritage_command (0x01 ∷ t) ≡ heritage.Cut
@@ -28,7 +28,7 @@ misplaced b (k ∷ t) h = rw (ne_eqb b 0x01 h)
 
 pub returns-then-tape-eq0 : goal.returns-then-tape-eq0
 unfolding heritage_command
-returns-then-tape-eq0 c = rw (at-end heritage_command _ c.if-tape-eq0.true)
+returns-then-tape-eq0 c = rw (at_the_end heritage_command _ c.if-tape-eq0.true)
 
 pub returns-then-tape-ne-HERITAGE : goal.returns-then-tape-ne-HERITAGE
 returns-then-tape-ne-HERITAGE c = rw (at_first heritage_command _ c.if-tape-eq0.false, misplaced _ _ c.if-tape-ne-HERITAGE.true)

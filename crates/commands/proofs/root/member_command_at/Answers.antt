@@ -2,12 +2,12 @@ use mathlib.Core.Path.{ap}
 use borrow.Author.Tests.{lt-ltb, le-ltb, ne_eqb}
 use Rattle.commands.specs.Root.{member_command}
 use Rattle.commands.specs.declared.root.MemberCommand.TheVariants as member
-use Rattle.commands.proofs.Operands.{at-end, at_first}
+use Rattle.commands.proofs.Operands.{at_the_end, at_first}
 use Rattle.commands.proofs.root.member_command_at.Goals as goal
 
 pub returns-then-tape-eq0 : goal.returns-then-tape-eq0
 unfolding member_command
-returns-then-tape-eq0 c = rw (at-end member_command _ c.if-tape-eq0.true)
+returns-then-tape-eq0 c = rw (at_the_end member_command _ c.if-tape-eq0.true)
 
 pub returns-then-tape-ne-TAG_MEMBER : goal.returns-then-tape-ne-TAG_MEMBER
 unfolding member_command

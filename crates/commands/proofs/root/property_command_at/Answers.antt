@@ -4,12 +4,12 @@ use mathlib.Core.Path.{ap₂, ap}
 use borrow.Author.Tests.{lt-ltb, le-ltb, ne_eqb}
 use Rattle.commands.specs.Root.{property_command}
 use Rattle.commands.specs.declared.root.PropertyCommand.TheVariants as property
-use Rattle.commands.proofs.Operands.{at-end, at_first}
+use Rattle.commands.proofs.Operands.{at_the_end, at_first}
 use Rattle.commands.proofs.root.property_command_at.Goals as goal
 
 pub returns-then-tape-eq0 : goal.returns-then-tape-eq0
 unfolding property_command
-returns-then-tape-eq0 c = rw (at-end property_command _ c.if-tape-eq0.true)
+returns-then-tape-eq0 c = rw (at_the_end property_command _ c.if-tape-eq0.true)
 
 pub returns-then-rest-lt-EXPRESSION : goal.returns-then-rest-lt-EXPRESSION
 unfolding property_command

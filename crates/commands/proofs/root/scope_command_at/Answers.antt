@@ -6,10 +6,10 @@ use mathlib.Core.Path.{◌≡◌, refl, ap}
 use native.Mathlib.Omega.{arith}
 use lib.Dec.{leb}
 use lib.ListN.{length, get_or}
-use borrow.Author.Tests.{lt-ltb, le-ltb, le-leb, lt-leb, ne_eqb, not-true, not-false}
+use borrow.Author.Tests.{lt-ltb, le-ltb, le-leb, lt-leb, ne_eqb}
 use Rattle.commands.specs.Root.{scope_command}
 use Rattle.commands.specs.declared.root.ScopeCommand.TheVariants as scope
-use Rattle.commands.proofs.Operands.{at-end, at_first}
+use Rattle.commands.proofs.Operands.{at_the_end, at_first}
 use Rattle.commands.proofs.root.scope_command_at.Goals as goal
 
 cut : (found : Bool) (t : List ℕ) → length t < 1 → scope_command found (0x02 ∷ t) ≡ scope.Cut
@@ -24,7 +24,7 @@ whole found (k ∷ t) h = refl
 
 pub returns-then-tape-eq0 : goal.returns-then-tape-eq0
 unfolding scope_command
-returns-then-tape-eq0 c = rw (at-end (scope_command _) _ c.if-tape-eq0.true)
+returns-then-tape-eq0 c = rw (at_the_end (scope_command _) _ c.if-tape-eq0.true)
 
 pub returns-then-rest-lt-KIND : goal.returns-then-rest-lt-KIND
 returns-then-rest-lt-KIND c = rw (at_first (scope_command _) _ c.if-tape-eq0.false, c.in-2.is, cut _ _ c.if-rest-lt-KIND.true)

@@ -4,12 +4,12 @@ use mathlib.Core.Path.{ap}
 use borrow.Author.Tests.{lt-ltb, le-ltb, ne_eqb}
 use Rattle.commands.specs.Root.{value_command}
 use Rattle.commands.specs.declared.root.ValueCommand.TheVariants as value
-use Rattle.commands.proofs.Operands.{at-end, at_first}
+use Rattle.commands.proofs.Operands.{at_the_end, at_first}
 use Rattle.commands.proofs.root.value_command_at.Goals as goal
 
 pub returns-then-tape-eq0 : goal.returns-then-tape-eq0
 unfolding value_command
-returns-then-tape-eq0 c = rw (at-end value_command _ c.if-tape-eq0.true)
+returns-then-tape-eq0 c = rw (at_the_end value_command _ c.if-tape-eq0.true)
 
 pub returns-then-rest-lt-SPAN : goal.returns-then-rest-lt-SPAN
 unfolding value_command

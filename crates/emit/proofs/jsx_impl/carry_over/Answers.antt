@@ -6,7 +6,7 @@ use Rattle.commands.specs.Root.{property_command}
 use Rattle.definitions.specs.Calls as call
 use Rattle.definitions.specs.Calls.{expression_code}
 use Rattle.emit.proofs.Readings.{seen}
-use Rattle.emit.proofs.Properties.{left-begin, left-unnamed, left-named, left_end, left-wrong, left_cut, within, carried-begin, carried-unnamed, carried-named, carried-end}
+use Rattle.emit.proofs.Properties.{left_begin, left_unnamed, left_named, left_end, left_wrong, left_cut, within, carried_begin, carried_unnamed, carried_named, carried_end}
 use Rattle.commands.specs.declared.root.PropertyCommand.{PropertyCommand}
 use Rattle.commands.specs.Sizes.{property_size}
 use Rattle.emit.proofs.jsx_impl.carry_over.Goals as goal
@@ -23,7 +23,7 @@ fits : (c : After-property_command_at-command) {k : PropertyCommand} → c.prope
 fits c q = within c.args.tape.now c.loop-e.i _ c.loop-e.invariant.0 (there c q)
 
 pub loop-e-init : goal.loop-e-init
-loop-e-init c = (omega arith, refl, λ text f ps u h d. left-begin h d (carried-begin ps _ _))
+loop-e-init c = (omega arith, refl, λ text f ps u h d. left_begin h d (carried_begin ps _ _))
 
 pub overflow_add-i : goal.overflow_add-i
 overflow_add-i c = omega (arith, fits (goal.at.overflow_add-i c).After-property_command_at-command c.in-Property.is)
@@ -36,7 +36,7 @@ unfolding expression_code
 loop-e-preserved-in-Property c = (
   omega (arith, fits (goal.at.loop-e-preserved-in-Property c).After-property_command_at-command c.in-Property.is),
   omega arith,
-  λ text f ps u h d. left-unnamed (c.loop-e.invariant.2 text f ps u h d) (there (goal.at.loop-e-preserved-in-Property c).After-property_command_at-command c.in-Property.is) (carried-unnamed _ (short (goal.at.loop-e-preserved-in-Property c).Start) (c.put_over-next.ensures call.carried refl)),
+  λ text f ps u h d. left_unnamed (c.loop-e.invariant.2 text f ps u h d) (there (goal.at.loop-e-preserved-in-Property c).After-property_command_at-command c.in-Property.is) (carried_unnamed _ (short (goal.at.loop-e-preserved-in-Property c).Start) (c.put_over-next.ensures call.carried refl)),
 )
 
 pub overflow_add-i-in-Named : goal.overflow_add-i-in-Named
@@ -50,14 +50,14 @@ unfolding expression_code
 loop-e-preserved c = (
   omega (arith, fits (goal.at.loop-e-preserved c).After-property_command_at-command c.in-Named.is),
   omega arith,
-  λ text f ps u h d. left-named (c.loop-e.invariant.2 text f ps u h d) (there (goal.at.loop-e-preserved c).After-property_command_at-command c.in-Named.is) (carried-named _ _ (short (goal.at.loop-e-preserved c).Start) (c.put_over-next-in-Named.ensures call.carried refl)),
+  λ text f ps u h d. left_named (c.loop-e.invariant.2 text f ps u h d) (there (goal.at.loop-e-preserved c).After-property_command_at-command c.in-Named.is) (carried_named _ _ (short (goal.at.loop-e-preserved c).Start) (c.put_over-next-in-Named.ensures call.carried refl)),
 )
 
 pub returns-in-End : goal.returns-in-End
-returns-in-End c = λ text f ps u h d. carried-end (left_end (c.loop-e.invariant.2 text f ps u h d) (there (goal.at.returns-in-End c).After-property_command_at-command c.in-End.is)).0
+returns-in-End c = λ text f ps u h d. carried_end (left_end (c.loop-e.invariant.2 text f ps u h d) (there (goal.at.returns-in-End c).After-property_command_at-command c.in-End.is)).0
 
 pub returns-in-Wrong : goal.returns-in-Wrong
-returns-in-Wrong c = λ text f ps u h d. left-wrong (c.loop-e.invariant.2 text f ps u h d) (there (goal.at.returns-in-Wrong c).After-property_command_at-command c.in-Wrong.is)
+returns-in-Wrong c = λ text f ps u h d. left_wrong (c.loop-e.invariant.2 text f ps u h d) (there (goal.at.returns-in-Wrong c).After-property_command_at-command c.in-Wrong.is)
 
 pub returns-in-Cut : goal.returns-in-Cut
 returns-in-Cut c = λ text f ps u h d. left_cut (c.loop-e.invariant.2 text f ps u h d) (there (goal.at.returns-in-Cut c).After-property_command_at-command c.in-Cut.is)

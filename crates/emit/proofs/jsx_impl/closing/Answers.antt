@@ -2,10 +2,10 @@ use native.Mathlib.Omega.{arith}
 use mathlib.Core.Path.{refl}
 use Rattle.definitions.specs.Calls as call
 use Rattle.definitions.specs.Calls.{bare_code, byte_code}
-use Rattle.pen.proofs.Emitting.{called-then}
+use Rattle.pen.proofs.Emitting.{called_then}
 use Rattle.emit.proofs.jsx_impl.closing.Goals as goal
 
 pub returns : goal.returns
 unfolding bare_code byte_code
-returns c = called-then (omega arith) (c.put_bare-begun.ensures call.callee refl)
-    (called-then (omega arith) (rw c.mode_of.ensures at c.get_create_element-called.ensures) (rw (← c.is_pure.ensures, ← c.pure_byte.ensures) (c.put_byte.ensures call.call_end refl)))
+returns c = called_then (omega arith) (c.put_bare-begun.ensures call.callee refl)
+    (called_then (omega arith) (rw c.mode_of.ensures at c.get_create_element-called.ensures) (rw (← c.is_pure.ensures, ← c.pure_byte.ensures) (c.put_byte.ensures call.call_end refl)))

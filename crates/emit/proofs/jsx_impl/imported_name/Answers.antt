@@ -3,7 +3,7 @@ use mathlib.Core.Path.{refl}
 use Rattle.definitions.specs.Lowering.{imported}
 use Rattle.definitions.specs.Calls as call
 use Rattle.definitions.specs.Calls.{byte_code}
-use Rattle.pen.proofs.Emitting.{called-then}
+use Rattle.pen.proofs.Emitting.{called_then}
 use Rattle.emit.proofs.jsx_impl.imported_name.Goals as goal
 
 pub returns-in-Module : goal.returns-in-Module
@@ -13,7 +13,7 @@ returns-in-Module c = rw (c.in-Module.is, ← c.source_of-source.ensures) c.put_
 pub returns-in-Script : goal.returns-in-Script
 unfolding imported byte_code
 returns-in-Script c = rw (c.in-Script.is, ← c.source_of-source.ensures)
-    (called-then (omega arith) c.put_binding-required.ensures (c.put_byte.ensures call.member refl))
+    (called_then (omega arith) c.put_binding-required.ensures (c.put_byte.ensures call.member refl))
 
 pub returns-in-Classic : goal.returns-in-Classic
 unfolding imported byte_code

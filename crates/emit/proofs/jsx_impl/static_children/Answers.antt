@@ -2,14 +2,14 @@ use Rattle.text.proofs.Lists.{told}
 use mathlib.Core.Path.{refl}
 use Rattle.definitions.specs.Lowering.{static_children}
 use borrow.Author.Tests.{le-leb, lt-leb}
-use Rattle.pen.proofs.Emitting.{called-none}
+use Rattle.pen.proofs.Emitting.{called_none}
 use Rattle.definitions.specs.Calls as call
 use Rattle.definitions.specs.Calls.{bare_code}
 use Rattle.emit.proofs.jsx_impl.static_children.Goals as goal
 
 pub returns-then-not-is_development : goal.returns-then-not-is_development
 unfolding static_children
-returns-then-not-is_development c = λ k e. rw (e, told c.is_development.ensures c.if-not-is_development.true) (called-none _ _)
+returns-then-not-is_development c = λ k e. rw (e, told c.is_development.ensures c.if-not-is_development.true) (called_none _ _)
 
 pub returns-then-count-ge2 : goal.returns-then-count-ge2
 unfolding static_children bare_code

@@ -1,18 +1,17 @@
 -- A list up to the first root that is refused: `Row` (proofs/Listed) goes from root to root, and text and state are in order behind each.
 use mathlib.Core.Path.{refl, sym, ap, ◌∙◌}
-use Prim.Native.Nat.{◌-◌}
 use native.Mathlib.Omega.{arith}
 use Rattle.text.proofs.Lists.{told}
 use Rattle.definitions.specs.declared.state.Stepped.{Stepped}
 use Rattle.lowering.specs.declared.series.Ahead.TheVariants.{Root}
 use Rattle.lowering.specs.RootLists.{Stands}
-use Rattle.lowering.proofs.Judging.{going-after}
-use Rattle.lowering.proofs.Listed.{world, root-short, one_more, row-all, row-end, row-refused, row-root}
+use Rattle.lowering.proofs.Judging.{going_after}
+use Rattle.lowering.proofs.Listed.{begun, root_short, one_more, row_all, row_end, row_refused, row_root}
 use Rattle.lowering.proofs.series.lower_in_turn.Goals as goal
 use Rattle.lowering.proofs.series.lower_in_turn.Goals.{In-Root}
 
 pub loop-answer-init : goal.loop-answer-init
-loop-answer-init c = (refl, refl, row-all _ _ _, c.requires)
+loop-answer-init c = (refl, refl, row_all _ _ _, c.requires)
 
 pub next_root-requires : goal.next_root-requires
 next_root-requires c = c.loop-answer.invariant.2.within
@@ -25,11 +24,11 @@ shape_of-notices-in-End c = c.loop-answer.invariant.1
 
 pub returns-in-End : goal.returns-in-End
 returns-in-End c =
-    let e = row-end c.loop-answer.invariant.2 c.next_root.ensures.roots_by c.in-End.is in
+    let e = row_end c.loop-answer.invariant.2 c.next_root.ensures.roots_by c.in-End.is in
     sym (e ∙ λ ι.
     record {
       answer = sym c.list_end-answer.ensures ι;
-      world = world c.loop-answer.last c.loop-answer.calls c.loop-answer.notices;
+      world = begun c.loop-answer.last c.loop-answer.calls c.loop-answer.notices;
       taken = c.loop-answer.taken;
     })
 
@@ -50,7 +49,7 @@ slice_bounds-lower_tested-end c = omega (arith, (standing (goal.at.slice_bounds-
 
 pub lower_tested-stepped-requires : goal.lower_tested-stepped-requires
 lower_tested-stepped-requires c = record {
-  root_len_bound = root-short _ _ _ _ (standing (goal.at.lower_tested-stepped-requires c).In-Root);
+  root_len_bound = root_short _ _ _ _ (standing (goal.at.lower_tested-stepped-requires c).In-Root);
   going = c.loop-answer.invariant.3;
 }
 
@@ -66,7 +65,7 @@ pub returns-in-Refused : goal.returns-in-Refused
 returns-in-Refused c =
     let o = c.lower_tested-stepped.ensures in
     sym
-    (row-refused c.loop-answer.invariant.2 c.next_root.ensures.roots_by c.in-Root.is c.next_root.ensures.stands
+    (row_refused c.loop-answer.invariant.2 c.next_root.ensures.roots_by c.in-Root.is c.next_root.ensures.stands
     (told (ap (λ (t : Stepped). t.answer) o.answered) c.in-Refused.is) (one_more _ _ _ o.answered o.called o.noticed))
 
 pub overflow_add-taken : goal.overflow_add-taken
@@ -82,7 +81,7 @@ loop-answer-preserved c =
     let o = c.lower_tested-stepped.ensures in (
       c.lower_tested-stepped.auto.calls ∙ c.loop-answer.invariant.0,
       c.lower_tested-stepped.auto.notices ∙ c.loop-answer.invariant.1,
-      row-root c.loop-answer.invariant.2 c.next_root.ensures.roots_by c.in-Root.is c.next_root.ensures.stands
+      row_root c.loop-answer.invariant.2 c.next_root.ensures.roots_by c.in-Root.is c.next_root.ensures.stands
           (told (ap (λ (t : Stepped). t.answer) o.answered) c.in-Accepted.is) (one_more _ _ _ o.answered o.called o.noticed),
-      going-after _ _ _ _ _ o c.in-Accepted.is,
+      going_after _ _ _ _ _ o c.in-Accepted.is,
     )

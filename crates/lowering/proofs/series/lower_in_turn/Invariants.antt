@@ -3,14 +3,14 @@ use mathlib.Core.Path.{◌≡◌}
 use Prim.Native.Nat.{◌-◌}
 use lib.ListN.{length}
 use Rattle.lowering.specs.Steps.{Going}
-use Rattle.lowering.proofs.Listed.{world, Row}
+use Rattle.lowering.proofs.Listed.{begun, Row}
 use Rattle.lowering.proofs.series.lower_in_turn.Given as goal
 
 abbrev pub invariant-loop-answer : goal.invariant-loop-answer
 invariant-loop-answer l =
     (length l.calls ≡ length l.initial.calls)
     × (length l.notices ≡ length l.initial.notices)
-    × Row l.text l.roots (world l.initial.last l.initial.calls l.initial.notices) l.at l.taken (world l.last l.calls l.notices)
+    × Row l.text l.roots (begun l.initial.last l.initial.calls l.initial.notices) l.at l.taken (begun l.last l.calls l.notices)
     × Going l.text l.last (length l.calls) (length l.notices)
 
 abbrev pub decreases-loop-answer : goal.decreases-loop-answer

@@ -1,11 +1,11 @@
 use Rattle.text.proofs.Lists.{told}
-use Rattle.lowering.proofs.Listed.{list-long, list-ill, run_is}
+use Rattle.lowering.proofs.Listed.{list_long, list_ill, run_is}
 use Rattle.lowering.proofs.series.lower_list.Goals as goal
 
 pub returns-then-text-gt-MAX_LENGTH : goal.returns-then-text-gt-MAX_LENGTH
 returns-then-text-gt-MAX_LENGTH c =
     let a = c.args in
-    let it = run_is _ _ _ _ _ (list-long a.text.now a.state a.calls.now a.notices.now a.roots.now c.if-text-gt-MAX_LENGTH.true c.list_refused.ensures) in
+    let it = run_is _ _ _ _ _ (list_long a.text.now a.state a.calls.now a.notices.now a.roots.now c.if-text-gt-MAX_LENGTH.true c.list_refused.ensures) in
     record { answer_value = it.0; taken_value = it.1; left = it.2; left_by_series = it.3; kept = it.4 }
 
 pub lower_list_if_unforged-requires : goal.lower_list_if_unforged-requires
@@ -19,7 +19,7 @@ returns-in-At c =
     let a = c.args in
     let it =
     run_is _ _ _ _ _
-    (list-ill a.text.now a.state a.calls.now a.notices.now a.roots.now c.in-At.place c.if-text-gt-MAX_LENGTH.false
+    (list_ill a.text.now a.state a.calls.now a.notices.now a.roots.now c.in-At.place c.if-text-gt-MAX_LENGTH.false
     (told c.first_ill_formed.ensures c.in-At.is) c.list_refused-in-At.ensures)
     in
     record { answer_value = it.0; taken_value = it.1; left = it.2; left_by_series = it.3; kept = it.4 }

@@ -1,17 +1,16 @@
 -- Demand 3 of a list of roots: `Left` (proofs/Listed) goes from root to root, and the claim is `demand3` of definitions.
 use mathlib.Core.Path.{refl, sym, ap, ◌∙◌}
-use Prim.Native.Nat.{◌-◌}
 use native.Mathlib.Omega.{arith}
 use Rattle.definitions.specs.Series.{World}
 use Rattle.definitions.proofs.Demand3.{demand3}
 use Rattle.lowering.specs.declared.series.Ahead.TheVariants.{Root}
 use Rattle.lowering.specs.RootLists.{Stands}
-use Rattle.lowering.proofs.Listed.{left-all, left-root, left_end}
+use Rattle.lowering.proofs.Listed.{left_all, left_root, left_end}
 use Rattle.lowering.proofs.series.lower_series.Goals as goal
 use Rattle.lowering.proofs.series.lower_series.Goals.{In-Root}
 
 pub loop-last-init : goal.loop-last-init
-loop-last-init c = (refl, refl, left-all _ _ _)
+loop-last-init c = (refl, refl, left_all _ _ _)
 
 pub next_root-requires : goal.next_root-requires
 next_root-requires c = c.loop-last.invariant.2.within
@@ -55,5 +54,5 @@ pub loop-last-preserved : goal.loop-last-preserved
 loop-last-preserved c = (
   c.lower_next-last.auto.calls ∙ c.loop-last.invariant.0,
   c.lower_next-last.auto.notices ∙ c.loop-last.invariant.1,
-  left-root c.loop-last.invariant.2 c.next_root.ensures.roots_by c.in-Root.is c.next_root.ensures.stands c.lower_next-last.ensures,
+  left_root c.loop-last.invariant.2 c.next_root.ensures.roots_by c.in-Root.is c.next_root.ensures.stands c.lower_next-last.ensures,
 )

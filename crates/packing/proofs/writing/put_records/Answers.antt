@@ -2,9 +2,9 @@ use native.Mathlib.Omega.{arith}
 use mathlib.Core.Path.{◌≡◌}
 use lib.ListN.{take}
 use lib.Seq.{take_all}
-use Rattle.tape.proofs.Targets.{wrote_nothing, wrote_then, wrote-length}
+use Rattle.tape.proofs.Targets.{wrote_nothing, wrote_then, wrote_length}
 use Rattle.packing.specs.Packed.{records_bytes}
-use Rattle.packing.proofs.Bytes.{records-next}
+use Rattle.packing.proofs.Bytes.{records_next}
 use Rattle.packing.proofs.writing.put_records.Goals as goal
 
 pub loop-i-init : goal.loop-i-init
@@ -27,10 +27,10 @@ pub loop-i-preserved : goal.loop-i-preserved
 loop-i-preserved c =
     let i = c.loop-i.i in
     let w = wrote_then (omega arith) c.loop-i.invariant.1 c.put_record-end.ensures in
-    (omega arith, rw (records-next c.args.records i (omega arith)) at w)
+    (omega arith, rw (records_next c.args.records i (omega arith)) at w)
 
 pub shape_of-out : goal.shape_of-out
-shape_of-out c = wrote-length c.loop-i.invariant.1
+shape_of-out c = wrote_length c.loop-i.invariant.1
 
 pub returns : goal.returns
 returns c =

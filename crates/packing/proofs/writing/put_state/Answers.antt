@@ -1,10 +1,10 @@
 use native.Mathlib.Omega.{arith}
-use Rattle.tape.proofs.Targets.{wrote_then, wrote-small}
+use Rattle.tape.proofs.Targets.{wrote_then, wrote_small}
 use Rattle.packing.specs.Packed.{packed}
 use Rattle.packing.proofs.writing.put_state.Goals as goal
 
 pub put_records-b-requires : goal.put_records-b-requires
-put_records-b-requires c = wrote-small c.put_settings-a.ensures
+put_records-b-requires c = wrote_small c.put_settings-a.ensures
 
 pub returns : goal.returns
 unfolding packed

@@ -1,5 +1,5 @@
 use mathlib.Core.List.{List}
-use Rattle.text.proofs.Lists.{tail-part}
+use Rattle.text.proofs.Lists.{tail_part}
 use Rattle.definitions.specs.Judging.{done}
 use Rattle.definitions.specs.Reading.{properties_at}
 use lib.ListN.{length-drop}
@@ -11,7 +11,7 @@ use Rattle.parts.proofs.jsx_impl.literal_attribute.Goals as goal
 
 pub returns-clause-literal_written : goal.returns-clause-literal_written
 returns-clause-literal_written c = λ k e f ps u h i.
-    let rest = tail-part c.args.tape.now 3 in
+    let rest = tail_part c.args.tape.now 3 in
     let j : properties_at f c.args.text.now (take (length c.args.tape.now - 3) (drop 3 c.args.tape.now)) ≡ done ps u =
     ap (λ (l : List ℕ). properties_at f c.args.text.now l) rest ∙ i in
     let it = c.lower_literal-literal.ensures.used_value k e f ps u (omega (arith, ap length rest, length-drop 3 c.args.tape.now, c.requires)) j in

@@ -1,5 +1,5 @@
-use Rattle.parts.proofs.Fronts.{member_seen, members-goes, members-over, members-never}
-use Rattle.commands.proofs.Lengths.{member-fits}
+use Rattle.parts.proofs.Fronts.{member_seen, members_goes, members_over, members_never}
+use Rattle.commands.proofs.Lengths.{member_fits}
 use lib.ListN.{length-drop}
 use native.Mathlib.Omega.{arith}
 use lib.ListN.{drop}
@@ -9,7 +9,7 @@ pub loop-i-smaller : goal.loop-i-smaller
 loop-i-smaller c =
     let t = c.args.tape.now in
     let l = c.loop-i in
-    let fits = member-fits (drop l.i t) (member_seen t l.i c.member_command_at-command.ensures c.in-Member.is) in
+    let fits = member_fits (drop l.i t) (member_seen t l.i c.member_command_at-command.ensures c.in-Member.is) in
     omega (arith, fits, length-drop l.i t, l.invariant.0)
 
 pub loop-i-preserved : goal.loop-i-preserved
@@ -17,8 +17,8 @@ loop-i-preserved c =
     let t = c.args.tape.now in
     let l = c.loop-i in
     let member = member_seen t l.i c.member_command_at-command.ensures c.in-Member.is in (
-      omega (arith, member-fits (drop l.i t) member, length-drop l.i t, l.invariant.0),
-      λ f text ms u e. members-goes text t _ u l.i (l.invariant.1 f text ms u e) _ member,
+      omega (arith, member_fits (drop l.i t) member, length-drop l.i t, l.invariant.0),
+      λ f text ms u e. members_goes text t _ u l.i (l.invariant.1 f text ms u e) _ member,
     )
 
 pub returns-in-Other-clause-read : goal.returns-in-Other-clause-read
@@ -26,11 +26,11 @@ returns-in-Other-clause-read c =
     let t = c.args.tape.now in
     let l = c.loop-i in
     let other = member_seen t l.i c.member_command_at-command.ensures c.in-Other.is in
-    λ f text ms u e. members-over text t _ u l.i (l.invariant.1 f text ms u e) other
+    λ f text ms u e. members_over text t _ u l.i (l.invariant.1 f text ms u e) other
 
 pub returns-in-Cut-clause-read : goal.returns-in-Cut-clause-read
 returns-in-Cut-clause-read c =
     let t = c.args.tape.now in
     let l = c.loop-i in
     let cut = member_seen t l.i c.member_command_at-command.ensures c.in-Cut.is in
-    λ f text ms u e. absurd (members-never text t _ u l.i (l.invariant.1 f text ms u e) cut)
+    λ f text ms u e. absurd (members_never text t _ u l.i (l.invariant.1 f text ms u e) cut)

@@ -1,14 +1,14 @@
 use Rattle.text.proofs.Lists.{told}
-use Rattle.text.proofs.Parts.{good-bounds, empty-bounds}
-use Rattle.text.proofs.Prefixes.{part-well-formed}
+use Rattle.text.proofs.Parts.{good_bounds, empty_bounds}
+use Rattle.text.proofs.Prefixes.{part_well_formed}
 use Rattle.parts.proofs.jsx_impl.transform_jsx_text.Goals as goal
 
 pub text_lines-requires-clause-well_formed : goal.text_lines-requires-clause-well_formed
 text_lines-requires-clause-well_formed c =
-    let it = empty-bounds _ _ (told c.span_bounds-bounds.ensures c.in-Empty.is) in
-    part-well-formed _ _ c.requires.well_formed it.0 it.1
+    let it = empty_bounds _ _ (told c.span_bounds-bounds.ensures c.in-Empty.is) in
+    part_well_formed _ _ c.requires.well_formed it.0 it.1
 
 pub text_lines-requires-in-Good-clause-well_formed : goal.text_lines-requires-in-Good-clause-well_formed
 text_lines-requires-in-Good-clause-well_formed c =
-    let it = good-bounds _ _ (told c.span_bounds-bounds.ensures c.in-Good.is) in
-    part-well-formed _ _ c.requires.well_formed it.0 it.1
+    let it = good_bounds _ _ (told c.span_bounds-bounds.ensures c.in-Good.is) in
+    part_well_formed _ _ c.requires.well_formed it.0 it.1

@@ -3,9 +3,9 @@ use Rattle.tape.specs.Numbers.{span_bytes}
 use Rattle.tape.proofs.Targets.{wrote_then}
 use Rattle.definitions.specs.Store.{bound_by, numbered}
 use Rattle.definitions.specs.Calls.{bytes_of}
-use Rattle.pen.proofs.Commands.{called-plain}
+use Rattle.pen.proofs.Commands.{called_plain}
 use Rattle.pen.proofs.pen.put_spanned.Goals as goal
 
 pub returns : goal.returns
 unfolding bound_by numbered bytes_of
-returns c = λ k e. called-plain (λ js. refl) (λ js. ap (λ (b : ℕ). b ∷ span_bytes c.args.span) e) (wrote_then (omega arith) c.put-at.ensures c.put_span.ensures)
+returns c = λ k e. called_plain (λ js. refl) (λ js. ap (λ (b : ℕ). b ∷ span_bytes c.args.span) e) (wrote_then (omega arith) c.put-at.ensures c.put_span.ensures)

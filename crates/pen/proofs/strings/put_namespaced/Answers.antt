@@ -1,15 +1,15 @@
 use Rattle.std.proofs.Common.{◌^◌, ◌≤◌, length, refl, append_assoc, arith}
 use Rattle.definitions.specs.Calls as call
 use Rattle.definitions.specs.Calls.{bare_code}
-use Rattle.pen.proofs.Emitting.{called-then, called-as}
+use Rattle.pen.proofs.Emitting.{called_then, called_as}
 use Rattle.pen.proofs.strings.put_namespaced.Goals as goal
 
 pub returns : goal.returns
 unfolding bare_code
 returns c = let short : length c.args.calls.now ≤ 2 ^ 63 = omega arith in
-    called-as (simp append_assoc)
-    (called-then short
-    (called-then short
-    (called-then short
-    (called-then short (c.put_bare-begun.ensures call.string_begin refl) c.put_piece-front.ensures) (c.put_bare-parted.ensures call.colon refl)) c.put_piece-back.ensures)
+    called_as (simp append_assoc)
+    (called_then short
+    (called_then short
+    (called_then short
+    (called_then short (c.put_bare-begun.ensures call.string_begin refl) c.put_piece-front.ensures) (c.put_bare-parted.ensures call.colon refl)) c.put_piece-back.ensures)
     (c.put_bare.ensures call.string_end refl))

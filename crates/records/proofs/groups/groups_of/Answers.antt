@@ -6,7 +6,7 @@ use mathlib.Core.List.{List}
 use lib.Seq.{slice}
 use Rattle.definitions.specs.Records.{groups_from}
 use Rattle.records.specs.Grouping.{sources_of, Apart}
-use Rattle.records.proofs.Grouping.{known_next, groups-next, groups-end}
+use Rattle.records.proofs.Grouping.{known_next, groups_next, groups_end}
 use Rattle.records.proofs.groups.groups_of.Goals as goal
 
 pub loop-i-init : goal.loop-i-init
@@ -27,11 +27,11 @@ loop-i-preserved c =
       c.grouped_by-groups.ensures.apart,
       k.1,
       c.loop-i.invariant.3
-          ∙ groups-next _ c.args.records i c.args.n (omega arith) l
+          ∙ groups_next _ c.args.records i c.args.n (omega arith) l
           ∙ ap (λ (g : List ℕ). groups_from g (slice (i + 1) c.args.n c.args.records)) (sym c.grouped_by-groups.ensures.same),
     )
 
 pub returns : goal.returns
 returns c =
     let e : c.loop-i.i ≡ c.args.n = omega arith in
-    sym (c.loop-i.invariant.3 ∙ rw e (groups-end _ c.args.n c.args.records))
+    sym (c.loop-i.invariant.3 ∙ rw e (groups_end _ c.args.n c.args.records))

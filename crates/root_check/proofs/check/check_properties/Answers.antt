@@ -1,4 +1,4 @@
-use Rattle.root_check.proofs.Loops.{passed_none, passed-next, next-less, end-inside, bad-inside, passed-end, passed-bad}
+use Rattle.root_check.proofs.Loops.{passed_none, passed_next, next_less, end_inside, bad_inside, passed_end, passed_bad}
 use native.Mathlib.Omega.{arith}
 use Rattle.root_check.proofs.check.check_properties.Goals as goal
 
@@ -13,28 +13,28 @@ slice_bounds-property_step-start c = omega (arith, c.loop-u.invariant.inside)
 
 pub overflow_add-i : goal.overflow_add-i
 overflow_add-i c =
-    omega (arith, (passed-next c.loop-u.invariant c.property_step-step.ensures c.in-Next.is).inside)
+    omega (arith, (passed_next c.loop-u.invariant c.property_step-step.ensures c.in-Next.is).inside)
 
 pub loop-u-smaller : goal.loop-u-smaller
 loop-u-smaller c =
-    next-less c.loop-u.invariant c.property_step-step.ensures c.in-Next.is
+    next_less c.loop-u.invariant c.property_step-step.ensures c.in-Next.is
 
 pub loop-u-preserved : goal.loop-u-preserved
 loop-u-preserved c =
-    passed-next c.loop-u.invariant c.property_step-step.ensures c.in-Next.is
+    passed_next c.loop-u.invariant c.property_step-step.ensures c.in-Next.is
 
 pub overflow_add-result : goal.overflow_add-result
 overflow_add-result c =
-    omega (arith, end-inside c.loop-u.invariant c.property_step-step.ensures c.in-End.is)
+    omega (arith, end_inside c.loop-u.invariant c.property_step-step.ensures c.in-End.is)
 
 pub returns-in-End : goal.returns-in-End
 returns-in-End c =
-    record { tells = passed-end c.loop-u.invariant c.property_step-step.ensures c.in-End.is }
+    record { tells = passed_end c.loop-u.invariant c.property_step-step.ensures c.in-End.is }
 
 pub overflow_add-result-in-Bad : goal.overflow_add-result-in-Bad
 overflow_add-result-in-Bad c =
-    omega (arith, bad-inside c.loop-u.invariant c.property_step-step.ensures c.in-Bad.is)
+    omega (arith, bad_inside c.loop-u.invariant c.property_step-step.ensures c.in-Bad.is)
 
 pub returns-in-Bad : goal.returns-in-Bad
 returns-in-Bad c =
-    record { tells = passed-bad c.loop-u.invariant c.property_step-step.ensures c.in-Bad.is }
+    record { tells = passed_bad c.loop-u.invariant c.property_step-step.ensures c.in-Bad.is }

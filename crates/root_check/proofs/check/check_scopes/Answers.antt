@@ -1,5 +1,5 @@
-use Rattle.root_check.proofs.Entry.{scope-room, scopes-on, scopes-wrong, scopes-bad, scopes-cut, scopes-element-reach, scopes-fragment-reach}
-use Rattle.root_check.proofs.Entry.{scopes-element, scopes-fragment}
+use Rattle.root_check.proofs.Entry.{scope_room, scopes_on, scopes_wrong, scopes_bad, scopes_cut, scopes_element_reach, scopes_fragment_reach}
+use Rattle.root_check.proofs.Entry.{scopes_element, scopes_fragment}
 use Rattle.root_check.proofs.Loops.{passed_none}
 use Rattle.root_check.proofs.Behind.{part_length}
 use Rattle.text.proofs.Lists.{told}
@@ -19,7 +19,7 @@ pub overflow_add-i : goal.overflow_add-i
 overflow_add-i c =
     omega (
       arith,
-      scope-room c.args.text.now c.args.tape.now _ c.loop-kind.invariant
+      scope_room c.args.text.now c.args.tape.now _ c.loop-kind.invariant
           (told c.scope_command_at-command.ensures c.in-Scope.is),
     )
 
@@ -27,13 +27,13 @@ pub loop-kind-smaller : goal.loop-kind-smaller
 loop-kind-smaller c =
     omega (
       arith,
-      scope-room c.args.text.now c.args.tape.now _ c.loop-kind.invariant
+      scope_room c.args.text.now c.args.tape.now _ c.loop-kind.invariant
           (told c.scope_command_at-command.ensures c.in-Scope.is),
     )
 
 pub loop-kind-preserved : goal.loop-kind-preserved
 loop-kind-preserved c =
-    scopes-on _ _ _ c.loop-kind.invariant _ (told c.scope_command_at-command.ensures c.in-Scope.is) c.in_function-found.ensures
+    scopes_on _ _ _ c.loop-kind.invariant _ (told c.scope_command_at-command.ensures c.in-Scope.is) c.in_function-found.ensures
 
 pub slice_bounds-open_element-count : goal.slice_bounds-open_element-count
 slice_bounds-open_element-count c =
@@ -47,7 +47,7 @@ pub open_element-requires : goal.open_element-requires
 open_element-requires c =
     omega (
       arith,
-      scope-room c.args.text.now c.args.tape.now _ c.loop-kind.invariant
+      scope_room c.args.text.now c.args.tape.now _ c.loop-kind.invariant
           (told c.scope_command_at-command.ensures c.in-Element.is),
       part_length c.loop-kind.i
           c.args.tape.now,
@@ -57,14 +57,14 @@ pub further-requires : goal.further-requires
 further-requires c =
     omega (
       arith,
-      scopes-element-reach c.args.text.now c.args.tape.now _ c.loop-kind.invariant _
+      scopes_element_reach c.args.text.now c.args.tape.now _ c.loop-kind.invariant _
           (told c.scope_command_at-command.ensures c.in-Element.is) c.open_element.ensures,
     )
 
 pub returns-in-Element : goal.returns-in-Element
 returns-in-Element c =
     record {
-      tells = scopes-element _ _ _ c.loop-kind.invariant _
+      tells = scopes_element _ _ _ c.loop-kind.invariant _
           (told c.scope_command_at-command.ensures c.in-Element.is) c.open_element.ensures
           c.further.ensures;
     }
@@ -81,7 +81,7 @@ pub open_fragment-requires : goal.open_fragment-requires
 open_fragment-requires c =
     omega (
       arith,
-      scope-room c.args.text.now c.args.tape.now _ c.loop-kind.invariant
+      scope_room c.args.text.now c.args.tape.now _ c.loop-kind.invariant
           (told c.scope_command_at-command.ensures c.in-Fragment.is),
       part_length c.loop-kind.i
           c.args.tape.now,
@@ -91,26 +91,26 @@ pub further-requires-in-Fragment : goal.further-requires-in-Fragment
 further-requires-in-Fragment c =
     omega (
       arith,
-      scopes-fragment-reach c.args.text.now c.args.tape.now _ c.loop-kind.invariant _
+      scopes_fragment_reach c.args.text.now c.args.tape.now _ c.loop-kind.invariant _
           (told c.scope_command_at-command.ensures c.in-Fragment.is) c.open_fragment.ensures,
     )
 
 pub returns-in-Fragment : goal.returns-in-Fragment
 returns-in-Fragment c =
     record {
-      tells = scopes-fragment _ _ _ c.loop-kind.invariant _
+      tells = scopes_fragment _ _ _ c.loop-kind.invariant _
           (told c.scope_command_at-command.ensures c.in-Fragment.is) c.open_fragment.ensures
           c.further-in-Fragment.ensures;
     }
 
 pub returns-in-Wrong : goal.returns-in-Wrong
 returns-in-Wrong c =
-    record { tells = scopes-wrong _ _ _ c.loop-kind.invariant (told c.scope_command_at-command.ensures c.in-Wrong.is) }
+    record { tells = scopes_wrong _ _ _ c.loop-kind.invariant (told c.scope_command_at-command.ensures c.in-Wrong.is) }
 
 pub returns-in-Cut : goal.returns-in-Cut
 returns-in-Cut c =
-    record { tells = scopes-cut _ _ _ c.loop-kind.invariant (told c.scope_command_at-command.ensures c.in-Cut.is) }
+    record { tells = scopes_cut _ _ _ c.loop-kind.invariant (told c.scope_command_at-command.ensures c.in-Cut.is) }
 
 pub returns-in-Bad : goal.returns-in-Bad
 returns-in-Bad c =
-    record { tells = scopes-bad _ _ _ c.loop-kind.invariant (told c.scope_command_at-command.ensures c.in-Bad.is) }
+    record { tells = scopes_bad _ _ _ c.loop-kind.invariant (told c.scope_command_at-command.ensures c.in-Bad.is) }

@@ -1,4 +1,4 @@
-use Rattle.root_check.proofs.Walking.{passed_none, open-behind-le, passed-no-command, passed-cut, passed-last, passed-more, passed-end, value-skipped}
+use Rattle.root_check.proofs.Walking.{passed_none, open_behind_le, passed_no_command, passed_cut, passed_last, passed_more, passed_end, value_skipped}
 use native.Mathlib.Omega.{arith}
 use lib.ListN.{get_or}
 use Rattle.root_check.proofs.skip.skip_value.Goals as goal
@@ -8,18 +8,18 @@ loop-i-init c = (omega arith, omega arith, passed_none _)
 
 pub returns-then-size-eq0 : goal.returns-then-size-eq0
 returns-then-size-eq0 c =
-    let it = value-skipped _ (passed-no-command c.loop-i.invariant.2 c.size_within-size.ensures c.if-size-eq0.true) in
+    let it = value_skipped _ (passed_no_command c.loop-i.invariant.2 c.size_within-size.ensures c.if-size-eq0.true) in
     record { within = it.0; read = it.1.0; passed = it.1.1 }
 
 pub returns-then-tape-i : goal.returns-then-tape-i
 returns-then-tape-i c =
-    let it = value-skipped _ (passed-cut c.loop-i.invariant.2 c.size_within-size.ensures c.if-tape-i.true) in
+    let it = value_skipped _ (passed_cut c.loop-i.invariant.2 c.size_within-size.ensures c.if-tape-i.true) in
     record { within = it.0; read = it.1.0; passed = it.1.1 }
 
 pub returns-then-levels-eq0 : goal.returns-then-levels-eq0
 returns-then-levels-eq0 c =
     let l = c.loop-i in
-    let it = value-skipped _ (passed-last l.invariant.2 c.size_within-size.ensures c.if-size-eq0.false c.if-tape-i.false c.open_behind-levels.ensures c.if-levels-eq0.true) in
+    let it = value_skipped _ (passed_last l.invariant.2 c.size_within-size.ensures c.if-size-eq0.false c.if-tape-i.false c.open_behind-levels.ensures c.if-levels-eq0.true) in
     record { within = it.0; read = it.1.0; passed = it.1.1 }
 
 pub loop-i-smaller : goal.loop-i-smaller
@@ -31,12 +31,12 @@ loop-i-preserved c =
     let l = c.loop-i in
     let behind = c.open_behind-levels in (
       omega arith,
-      omega (arith, behind.ensures, open-behind-le (get_or tape l.i 0) l.levels),
-      passed-more l.invariant.2
+      omega (arith, behind.ensures, open_behind_le (get_or tape l.i 0) l.levels),
+      passed_more l.invariant.2
           c.size_within-size.ensures c.if-size-eq0.false c.if-tape-i.false behind.ensures c.if-levels-eq0.false,
     )
 
 pub returns : goal.returns
 returns c =
-    let it = value-skipped _ (passed-end c.loop-i.invariant.2 c.loop-i-test.false c.loop-i.invariant.0) in
+    let it = value_skipped _ (passed_end c.loop-i.invariant.2 c.loop-i-test.false c.loop-i.invariant.0) in
     record { within = it.0; read = it.1.0; passed = it.1.1 }

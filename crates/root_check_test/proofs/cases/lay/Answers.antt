@@ -1,5 +1,4 @@
 use lib.ListN.{length-set}
-use Prim.Native.Nat.{◌-◌}
 use native.Mathlib.Omega.{arith}
 use Rattle.root_check_test.proofs.cases.lay.Goals as goal
 

@@ -2,9 +2,9 @@ use Prim.Native.Nat.{◌≤◌, ◌^◌}
 use native.Mathlib.Omega.{arith}
 use lib.ListN.{length}
 use mathlib.Core.Path.{◌∙◌}
-use Rattle.tape.proofs.Targets.{wrote-small}
-use Rattle.definitions.proofs.OpeningNotices.{notice-few}
-use Rattle.settings.proofs.Noticing.{spanned-under, unfit, fit}
+use Rattle.tape.proofs.Targets.{wrote_small}
+use Rattle.definitions.proofs.OpeningNotices.{notice_few}
+use Rattle.settings.proofs.Noticing.{spanned_under, unfit, fit}
 use Rattle.settings.proofs.opening.open_noticed.Goals as goal
 use Rattle.settings.proofs.opening.open_noticed.Goals.{After-mode_of-mode}
 
@@ -18,8 +18,8 @@ overflow_add-size c =
       arith,
       c.notice_size.ensures,
       c.notice_size-2.ensures,
-      notice-few c.pragma_under-read.result,
-      notice-few
+      notice_few c.pragma_under-read.result,
+      notice_few
           c.pragma_under-read_frag.result,
     )
 
@@ -30,14 +30,14 @@ returns-then-notices-size c =
 pub put_notice-behind-requires : goal.put_notice-behind-requires
 put_notice-behind-requires c = record {
   at_bound = omega arith;
-  spanned = spanned-under _ c.args.text.now c.args.options.pragma c.requires.text_len_bound c.requires.borne.pragma
+  spanned = spanned_under _ c.args.text.now c.args.options.pragma c.requires.text_len_bound c.requires.borne.pragma
       c.pragma_under-read.ensures;
 }
 
 pub put_notice-requires : goal.put_notice-requires
 put_notice-requires c = record {
-  at_bound = wrote-small c.put_notice-behind.ensures;
-  spanned = spanned-under _ c.args.text.now c.args.options.pragma_frag
+  at_bound = wrote_small c.put_notice-behind.ensures;
+  spanned = spanned_under _ c.args.text.now c.args.options.pragma_frag
       c.requires.text_len_bound c.requires.borne.frag c.pragma_under-read_frag.ensures;
 }
 

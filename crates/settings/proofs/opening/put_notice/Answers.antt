@@ -3,7 +3,7 @@ use Rattle.tape.proofs.Targets.{wrote_nothing}
 use Rattle.definitions.specs.Calls.{notice_bytes}
 use Rattle.definitions.specs.Opening.{pragma_notice}
 use Rattle.settings.specs.Tapes.{Spanned}
-use Rattle.settings.proofs.Noticing.{wrote-part}
+use Rattle.settings.proofs.Noticing.{wrote_part}
 use Rattle.settings.proofs.opening.put_notice.Goals as goal
 
 pub overflow_cast-span : goal.overflow_cast-span
@@ -24,4 +24,4 @@ returns-in-Valid c = rw c.in-Valid.is (wrote_nothing _ _ c.requires.at_bound)
 
 pub returns-in-Invalid : goal.returns-in-Invalid
 returns-in-Invalid c =
-    rw c.in-Invalid.is (wrote-part _ _ (omega arith) c.put-behind.ensures c.put_span.ensures)
+    rw c.in-Invalid.is (wrote_part _ _ (omega arith) c.put-behind.ensures c.put_span.ensures)

@@ -1,12 +1,12 @@
 use Rattle.definitions.specs.Judging.{read}
 use Rattle.definitions.specs.Opening.{opening_by, read_opening}
 use Rattle.text.proofs.Lists.{told}
-use Rattle.commands.proofs.Lengths.{flags-fits}
+use Rattle.commands.proofs.Lengths.{flags_fits}
 use Rattle.settings.specs.Tapes.{judged_options, judged_by}
 use Rattle.settings.proofs.opening.read_opening.Goals as goal
 
 pub read_options-requires : goal.read_options-requires
-read_options-requires c = flags-fits _ (told c.flags_command_at.ensures c.in-Flags.is)
+read_options-requires c = flags_fits _ (told c.flags_command_at.ensures c.in-Flags.is)
 
 pub returns-in-Wrong : goal.returns-in-Wrong
 unfolding judged_options judged_by read_opening opening_by read

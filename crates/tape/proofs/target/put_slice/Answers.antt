@@ -1,12 +1,11 @@
-use Rattle.tape.proofs.Filling.{filled-start, filled_next, filled-end}
+use Rattle.tape.proofs.Filling.{filled_start, filled_next, filled_end}
 use borrow.Author.Rules.{rules}
-use Prim.Native.Nat.{◌-◌}
 use native.Mathlib.Omega.{arith}
 use mathlib.Core.Path.{refl}
 use Rattle.tape.proofs.target.put_slice.Goals as goal
 
 pub loop-i-init : goal.loop-i-init
-loop-i-init c = filled-start (λ xs. xs) _ refl (search rules)
+loop-i-init c = filled_start (λ xs. xs) _ refl (search rules)
 
 pub overflow_add-i : goal.overflow_add-i
 overflow_add-i c = omega arith
@@ -22,4 +21,4 @@ pub shape_of-out : goal.shape_of-out
 shape_of-out c = c.loop-i.invariant.same
 
 pub returns : goal.returns
-returns c = filled-end (λ xs. xs) _ c.loop-i.invariant c.loop-i-test.false
+returns c = filled_end (λ xs. xs) _ c.loop-i.invariant c.loop-i-test.false

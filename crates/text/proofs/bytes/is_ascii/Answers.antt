@@ -1,10 +1,9 @@
 -- `text::bytes::is_ascii` meets its contract. The loop's invariant: where `all` is below 80, the search from place i on has the answer. Assumes nothing.
-use Prim.Native.Nat.{◌-◌}
 use mathlib.Core.Path.{refl, ◌∙◌}
 use lib.ListN.{get_or}
 use borrow.Author.Tests.{lt-leb, ltb-true}
 use borrow.Author.Rules.{rules}
-use Rattle.text.proofs.Searching.{find-step, find-end, or-below}
+use Rattle.text.proofs.Searching.{find_step, find_end, or_below}
 use Rattle.text.proofs.bytes.is_ascii.Goals as goal
 
 pub loop-i-init : goal.loop-i-init
@@ -13,9 +12,9 @@ loop-i-init c = (search rules, λ h. refl)
 pub loop-i-preserved : goal.loop-i-preserved
 loop-i-preserved c = (
   search rules,
-  λ h. let o = or-below c.loop-i.all (get_or c.args.s.now c.loop-i.i 0) h in
-      c.loop-i.invariant.1 o.0 ∙ find-step _ _ _ c.loop-i-test.true (lt-leb _ _ o.1),
+  λ h. let o = or_below c.loop-i.all (get_or c.args.s.now c.loop-i.i 0) h in
+      c.loop-i.invariant.1 o.0 ∙ find_step _ _ _ c.loop-i-test.true (lt-leb _ _ o.1),
 )
 
 pub returns : goal.returns
-returns c = λ e. c.loop-i.invariant.1 (ltb-true _ _ e) ∙ find-end _ _ _ c.loop-i-test.false
+returns c = λ e. c.loop-i.invariant.1 (ltb-true _ _ e) ∙ find_end _ _ _ c.loop-i-test.false

@@ -4,7 +4,7 @@ use native.Mathlib.Omega.{arith}
 use mathlib.Core.Path.{◌≡◌, refl, sym, ◌∙◌}
 use lib.ListN.{length}
 use borrow.Author.Tests.{eq-eqb, ne_eqb, lt-leb}
-use Rattle.vectors.proofs.Comparing.{same_count, front-differ, front-step, front-end}
+use Rattle.vectors.proofs.Comparing.{same_count, front_differ, front_step, front_end}
 use Rattle.vectors.specs.Answers.{same_values}
 use Rattle.vectors.proofs.answers.same_values.Goals as goal
 
@@ -27,7 +27,7 @@ returns-then-a-i c =
     let u : length a.v ≡ 16 = search rules in
     let v : length b.v ≡ 16 = search rules in
     sym (same_count a b c.if-n-b.false (omega arith)
-    ∙ (l.invariant.2 ∙ front-differ a.v b.v a.n l.i (omega arith) (omega arith) (omega arith) c.if-a-i.true))
+    ∙ (l.invariant.2 ∙ front_differ a.v b.v a.n l.i (omega arith) (omega arith) (omega arith) c.if-a-i.true))
 
 pub loop-i-preserved : goal.loop-i-preserved
 loop-i-preserved c =
@@ -36,7 +36,7 @@ loop-i-preserved c =
     let b = c.args.b in
     let u : length a.v ≡ 16 = search rules in
     let v : length b.v ≡ 16 = search rules in
-    (omega arith, l.invariant.1, l.invariant.2 ∙ front-step a.v b.v a.n l.i (omega arith) (omega arith) (omega arith) c.if-a-i.false)
+    (omega arith, l.invariant.1, l.invariant.2 ∙ front_step a.v b.v a.n l.i (omega arith) (omega arith) (omega arith) c.if-a-i.false)
 
 pub returns : goal.returns
 returns c =
@@ -46,4 +46,4 @@ returns c =
     let u : length a.v ≡ 16 = search rules in
     let v : length b.v ≡ 16 = search rules in
     sym (same_count a b c.if-n-b.false (omega arith)
-    ∙ (l.invariant.2 ∙ front-end a.v b.v a.n l.i (omega arith) (omega arith) (omega arith)))
+    ∙ (l.invariant.2 ∙ front_end a.v b.v a.n l.i (omega arith) (omega arith) (omega arith)))

@@ -3,7 +3,7 @@ use Prim.Native.Nat.{◌+◌, ◌<◌}
 use native.Mathlib.Omega.{arith}
 use lib.ListN.{length}
 use Rattle.vectors.proofs.Places.{found_inside}
-use Rattle.text.proofs.Lists.{told, tail-part}
+use Rattle.text.proofs.Lists.{told, tail_part}
 use Rattle.vectors.proofs.lines.after.Goals as goal
 use Rattle.vectors.proofs.lines.after.Goals.{In-At}
 
@@ -23,4 +23,4 @@ pub slice_bounds-result-start-2 : goal.slice_bounds-result-start-2
 slice_bounds-result-start-2 c = omega (arith, inside (goal.at.slice_bounds-result-start-2 c).In-At)
 
 pub returns : goal.returns
-returns c = rw (told c.find_byte.ensures c.in-At.is) (tail-part c.args.s.now (c.in-At.n + 1))
+returns c = rw (told c.find_byte.ensures c.in-At.is) (tail_part c.args.s.now (c.in-At.n + 1))

@@ -1,11 +1,11 @@
 -- `vectors::values::digit` meets its contract. Each return rewrites with the tests that led there. Assumes nothing.
 use native.Mathlib.Omega.{arith}
-use Rattle.vectors.proofs.Digits.{below-decimal, decimal, below-upper, upper, below-lower, lower, above_lower}
+use Rattle.vectors.proofs.Digits.{below_decimal, decimal, below_upper, upper, below_lower, lower, above_lower}
 use Rattle.vectors.proofs.values.digit.Goals as goal
 
 pub returns-then-b-lt48 : goal.returns-then-b-lt48
 returns-then-b-lt48 c = record {
-  value = below-decimal _ c.if-b-lt48.true;
+  value = below_decimal _ c.if-b-lt48.true;
   upper_bound = omega arith;
 }
 
@@ -17,7 +17,7 @@ returns-then-b-le57 c = record {
 
 pub returns-then-b-lt65 : goal.returns-then-b-lt65
 returns-then-b-lt65 c = record {
-  value = below-upper _ c.if-b-le57.false c.if-b-lt65.true;
+  value = below_upper _ c.if-b-le57.false c.if-b-lt65.true;
   upper_bound = omega arith;
 }
 
@@ -29,7 +29,7 @@ returns-then-b-le70 c = record {
 
 pub returns-then-b-lt97 : goal.returns-then-b-lt97
 returns-then-b-lt97 c = record {
-  value = below-lower _ c.if-b-le70.false c.if-b-lt97.true;
+  value = below_lower _ c.if-b-le70.false c.if-b-lt97.true;
   upper_bound = omega arith;
 }
 

@@ -3,7 +3,7 @@ use borrow.Author.Rules.{rules}
 use native.Mathlib.Omega.{arith}
 use mathlib.Core.Path.{refl, sym, ◌∙◌}
 use native.Mathlib.Nat.{mod-lt}
-use Rattle.vectors.proofs.Folding.{fold_step, fold_end, product-below}
+use Rattle.vectors.proofs.Folding.{fold_step, fold_end, product_below}
 use Rattle.vectors.proofs.values.fold.Goals as goal
 
 pub loop-i-init : goal.loop-i-init
@@ -12,12 +12,12 @@ loop-i-init c = (search rules, omega arith, refl)
 pub overflow_mul-value : goal.overflow_mul-value
 overflow_mul-value c =
     let base = c.args.base in
-    record { fits = omega (arith, product-below c.loop-i.value base (omega arith)) }
+    record { fits = omega (arith, product_below c.loop-i.value base (omega arith)) }
 
 pub overflow_add-value : goal.overflow_add-value
 overflow_add-value c =
     let base = c.args.base in
-    record { fits = omega (arith, product-below c.loop-i.value base (omega arith)) }
+    record { fits = omega (arith, product_below c.loop-i.value base (omega arith)) }
 
 pub loop-i-preserved : goal.loop-i-preserved
 loop-i-preserved c =

@@ -2,7 +2,7 @@
 use borrow.Author.Rules.{rules}
 use native.Mathlib.Omega.{arith}
 use mathlib.Core.Path.{refl}
-use Rattle.vectors.proofs.Pairs.{hex-short, hex-high, hex-low, came-end, came-full, came-blank, came-pair}
+use Rattle.vectors.proofs.Pairs.{hex_short, hex_high, hex_low, came_end, came_full, came_blank, came_pair}
 use Rattle.text.proofs.Lists.{told}
 use Rattle.vectors.proofs.values.hex_bytes.Goals as goal
 
@@ -15,12 +15,12 @@ shape_of-out-then-s-i-lt2 c = c.loop-n.invariant.kept
 pub returns-then-s-i-lt2 : goal.returns-then-s-i-lt2
 returns-then-s-i-lt2 c =
     let l = c.loop-n in
-    let it = came-end l.invariant (hex-short c.args.s.now l.i (omega arith)) in
+    let it = came_end l.invariant (hex_short c.args.s.now l.i (omega arith)) in
     record { upper_bound = it.0; out_after = it.1 }
 
 pub loop-n-preserved-then-is_blank : goal.loop-n-preserved-then-is_blank
 loop-n-preserved-then-is_blank c =
-    came-blank c.loop-n.invariant (omega arith) (told c.is_blank.ensures c.if-is_blank.true)
+    came_blank c.loop-n.invariant (omega arith) (told c.is_blank.ensures c.if-is_blank.true)
 
 pub shape_of-out-then-high-eq16 : goal.shape_of-out-then-high-eq16
 shape_of-out-then-high-eq16 c =
@@ -31,7 +31,7 @@ returns-then-high-eq16 c =
     let l = c.loop-n in
     let s = c.args.s.now in
     let ink = told c.is_blank.ensures c.if-is_blank.false in
-    let it = came-end l.invariant (hex-high s l.i (omega arith) ink (told c.digit-high.ensures.value c.if-high-eq16.true)) in
+    let it = came_end l.invariant (hex_high s l.i (omega arith) ink (told c.digit-high.ensures.value c.if-high-eq16.true)) in
     record { upper_bound = it.0; out_after = it.1 }
 
 pub shape_of-out-then-low-eq16 : goal.shape_of-out-then-low-eq16
@@ -43,7 +43,7 @@ returns-then-low-eq16 c =
     let l = c.loop-n in
     let s = c.args.s.now in
     let ink = told c.is_blank.ensures c.if-is_blank.false in
-    let it = came-end l.invariant (hex-low s l.i (omega arith) ink (told c.digit-low.ensures.value c.if-low-eq16.true)) in
+    let it = came_end l.invariant (hex_low s l.i (omega arith) ink (told c.digit-low.ensures.value c.if-low-eq16.true)) in
     record { upper_bound = it.0; out_after = it.1 }
 
 pub loop-n-preserved : goal.loop-n-preserved
@@ -51,7 +51,7 @@ loop-n-preserved c =
     let ink = told c.is_blank.ensures c.if-is_blank.false in
     let high = c.digit-high.ensures in
     let low = c.digit-low.ensures in
-    came-pair _ _
+    came_pair _ _
     c.loop-n.invariant
     (omega arith)
     c.loop-n-test.true
@@ -62,5 +62,5 @@ shape_of-out c = c.loop-n.invariant.kept
 
 pub returns : goal.returns
 returns c =
-    let it = came-full c.loop-n.invariant c.loop-n-test.false in
+    let it = came_full c.loop-n.invariant c.loop-n-test.false in
     record { upper_bound = it.0; out_after = it.1 }

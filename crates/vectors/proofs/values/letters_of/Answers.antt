@@ -4,7 +4,7 @@ use native.Mathlib.Omega.{arith}
 use mathlib.Core.Path.{refl, sym, ◌∙◌}
 use lib.ListN.{length-set}
 use lib.Seq.{drop-length}
-use Rattle.vectors.proofs.Folding.{spelled_none, spelled-end, spelled-more}
+use Rattle.vectors.proofs.Folding.{spelled_none, spelled_end, spelled_more}
 use Rattle.vectors.proofs.values.letters_of.Goals as goal
 
 pub loop-i-init : goal.loop-i-init
@@ -23,7 +23,7 @@ pub loop-i-preserved : goal.loop-i-preserved
 loop-i-preserved c =
     let l = c.loop-i in
     let k = length-set l.out (l.i - 1) (96 + l.left % 32) in
-    (omega (arith, k), k ∙ l.invariant.1, l.invariant.2 ∙ spelled-more l.i l.left l.out c.loop-i-test.true l.invariant.0 c.if-left-eq0.false)
+    (omega (arith, k), k ∙ l.invariant.1, l.invariant.2 ∙ spelled_more l.i l.left l.out c.loop-i-test.true l.invariant.0 c.if-left-eq0.false)
 
 pub shape_of-out : goal.shape_of-out
 shape_of-out c = c.loop-i.invariant.1
@@ -31,5 +31,5 @@ shape_of-out c = c.loop-i.invariant.1
 pub returns : goal.returns
 returns c = record {
   upper_bound = c.loop-i.invariant.0;
-  out_after = sym (c.loop-i.invariant.2 ∙ spelled-end _ _ _ (omega arith));
+  out_after = sym (c.loop-i.invariant.2 ∙ spelled_end _ _ _ (omega arith));
 }

@@ -1,7 +1,7 @@
 -- `vectors::values::value_of` meets its contract. Assumes nothing.
 use native.Mathlib.Omega.{arith}
 use Rattle.vectors.specs.Values.{value_of}
-use Rattle.text.proofs.Lists.{told, tail-part}
+use Rattle.text.proofs.Lists.{told, tail_part}
 use Rattle.vectors.proofs.values.value_of.Goals as goal
 
 pub slice_bounds-fold-count : goal.slice_bounds-fold-count
@@ -14,7 +14,7 @@ pub returns-then-is_hexadecimal : goal.returns-then-is_hexadecimal
 unfolding value_of
 returns-then-is_hexadecimal c =
     let hex = told c.is_hexadecimal.ensures.value c.if-is_hexadecimal.true in
-    rw (hex, ← tail-part c.args.word.now 2) c.fold.ensures.value
+    rw (hex, ← tail_part c.args.word.now 2) c.fold.ensures.value
 
 pub returns-then-is_decimal : goal.returns-then-is_decimal
 unfolding value_of
