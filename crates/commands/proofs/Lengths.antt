@@ -1,5 +1,5 @@
 -- A command that was read off a tape takes no more bytes than the tape has: for a reader's answer c the law takes what the contract says, the
--- other way round, and gives `…Size c ≤ length t`. By its code alone no command takes more than nine bytes (`size_most`).
+-- other way round, and gives `…_size c ≤ length t`. By its code alone no command takes more than nine bytes (`size_most`).
 -- Assumes nothing.
 use mathlib.Core.Path.{◌≡◌, refl, subst}
 use mathlib.Core.Bool.{Bool, true, false, cond, ◌&&◌}

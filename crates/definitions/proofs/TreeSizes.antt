@@ -1,6 +1,6 @@
 -- A tree that is read off a tape has as many bytes as it took.
 --     Told                what holds of a reading's value and of the bytes that it took
---     node_size, ..       the size of a tree is what its reading took
+--     members_size, ..    the size of a tree is what its reading took
 --     root_size           so a root's tree is no larger than the tape
 -- Assumes nothing.
 use mathlib.Core.Path.{◌≡◌, refl, subst}

@@ -1,6 +1,4 @@
 -- Writing what fits, behind the tests of text and state.
---     state_short                      a text that passes them is not too long
---     state_refused, state_accepted    what a judgement comes to behind them
 --     crowded_by, roomy_by             refusal 10, and a target with room, where the size was measured
 --     source_size                      the text of a source is measured right
 -- Assumes nothing.
