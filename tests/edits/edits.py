@@ -19,6 +19,10 @@ NAMES = "# names: "
 LETTER = r"[\w'\-]"
 
 
+METHOD = re.compile(r"^    (?:pub )?fn (\w+)", re.M)
+PASSED = re.compile(r"\A\s*\{\n    [^\n]*(?:\.|::)(\w+)\([^()\n]*\)\n\}\n")
+
+
 class Edit:
     def __init__(self, crate, path):
         self.crate, self.path = crate, path
@@ -49,16 +53,36 @@ class Edit:
                 return None
             made[name] = text.replace(old, new)
         if self.names:
-            for function in self.concerns(every):
+            concerned = self.concerns(every)
+            for function in concerned:
                 for name in function.proofs():
                     made[name] = self.renamed(made.get(name) or texts.get(name) or self.read(name), function)
+            for name in self.proofs_of_methods() if not concerned else []:
+                made[name] = self.renamed(made.get(name) or texts.get(name) or self.read(name), None)
         return made
+
+    def methods(self):
+        """The methods of `impl` blocks whose bodies it changes, by their names."""
+        found = set()
+        for name, old, _ in self.pairs:
+            text = self.read(name) if name.startswith("src/") else ""
+            before = text[:text.index(old)] if old in text else ""
+            heads = list(METHOD.finditer(before, before.rfind("\nimpl") + 1)) if "\nimpl" in before else []
+            if heads and "\n}\n" not in before[heads[-1].start():]:
+                found.add(heads[-1][1])
+        return found
+
+    def proofs_of_methods(self):
+        """The proof files of those methods, below the crate's folder."""
+        folder = os.path.join(ROOT, "crates", self.crate)
+        return [os.path.relpath(os.path.join(at, name), folder) for at, _, files in os.walk(os.path.join(folder, "proofs"))
+                if os.path.basename(at) in self.methods() for name in files]
 
     def renamed(self, text, function):
         """The text of a proof of the function with the new names: of functions that call one another only what answers this one's goals."""
         word = re.compile(rf"(?<!{LETTER})(?:{'|'.join(map(re.escape, self.names))})(?!{LETTER})")
         parts = text.split("\n\n")
-        return "\n\n".join(word.sub(lambda found: self.names[found[0]], part) if function.has(part) else part for part in parts)
+        return "\n\n".join(word.sub(lambda found: self.names[found[0]], part) if not function or function.has(part) else part for part in parts)
 
     def concerns(self, every):
         """The functions whose bodies it changes; none where it changes a definition, a contract or a type."""
@@ -104,10 +128,16 @@ def uncovered(crate):
     """The exported functions with fewer than two edits of their own: of the body, or of a private function that no other exported one reaches."""
     from functions import reached
     every = functions(ROOT, crate)
-    touched = [edit.concerns(every) for edit in of_crate(crate)]
+    edits = of_crate(crate)
+    touched = [edit.concerns(every) for edit in edits]
+    methods = [edit.methods() for edit in edits]
     reach = {f: {f} | reached(f, lambda g: not g.exported) for f in every if f.exported}
     for function in reach:
         own = {g for g in reach[function] if not any(g in reach[other] for other in reach if other is not function)}
         count = sum(bool(each & own) for each in touched)
+        # one that only calls a method has the method's
+        passed = PASSED.search(function.body[function.body_at:])
+        if passed:
+            count += sum(passed[1] in each for each in methods)
         if count < 2:
             yield function.path, count

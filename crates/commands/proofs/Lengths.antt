@@ -9,17 +9,19 @@ use native.Mathlib.Omega.{arith}
 use lib.ListN.{length}
 use lib.Dec.{eqb, leb, ltb}
 use borrow.Author.Tests.{leb-true, ltb-false}
+use Rattle.std.specs.Prelude.{Option, Result, Err, get_or}
+use Rattle.text.specs.declared.spans.Span.{Span}
 use Rattle.tape.specs.Numbers.{u16_at}
+use Rattle.commands.specs.declared.error.CommandError.{CommandError}
+use Rattle.commands.specs.declared.error.CommandError.TheVariants.{Cut}
+use Rattle.commands.specs.Operands.{operands}
 use Rattle.commands.specs.Opening.{flags_command, option_command}
-use Rattle.commands.specs.Root.{operands, scope_with, heritage_command, scope_command, name_command, member_command, attribute_command, property_command, value_command, child_command}
+use Rattle.commands.specs.Root.{heritage_command, scope_command, name_command, member_command, attribute_command, property_command, value_command, child_command}
 use Rattle.commands.specs.Sizes.{root_commands, size_in, command_size, flags_size, option_size, heritage_size, scope_size, name_size, member_size}
 use Rattle.commands.specs.Sizes.{attribute_size, property_size, value_size, child_size}
-use Rattle.commands.specs.declared.opening.FlagsCommand.{FlagsCommand}
 use Rattle.commands.specs.declared.opening.OptionCommand.{OptionCommand}
-use Rattle.commands.specs.declared.root.HeritageCommand.{HeritageCommand}
 use Rattle.commands.specs.declared.root.ScopeCommand.{ScopeCommand}
 use Rattle.commands.specs.declared.root.NameCommand.{NameCommand}
-use Rattle.commands.specs.declared.root.MemberCommand.{MemberCommand}
 use Rattle.commands.specs.declared.root.AttributeCommand.{AttributeCommand}
 use Rattle.commands.specs.declared.root.PropertyCommand.{PropertyCommand}
 use Rattle.commands.specs.declared.root.ValueCommand.{ValueCommand}
@@ -36,28 +38,28 @@ choose P true p q = p
 choose P false p q = q
 
 -- a command with operands: cut off, or whole with n bytes behind it
-with_operands : {A : Type 0} (P : A → Type 0) (n : ℕ) (t : List ℕ) {cut whole : A} → P cut → (n ≤ length t → P whole) → P (operands n t cut whole)
-with_operands P n t {cut} {whole} p q = go (ltb (length t) n) refl
+with_operands : {A : Type 0} (P : Result A CommandError → Type 0) (n : ℕ) (t : List ℕ) {whole : Result A CommandError} → P (Err Cut) → (n ≤ length t → P whole) → P (operands n t whole)
+with_operands P n t {whole} p q = go (ltb (length t) n) refl
   where
-    go : (b : Bool) → ltb (length t) n ≡ b → P (cond b cut whole)
+    go : (b : Bool) → ltb (length t) n ≡ b → P (cond b (Err Cut) whole)
     go true e = p
     go false e = q (ltb-false (length t) n e)
 
 -- ---- the opening tape
 
-pub flags_fits : (t : List ℕ) {c : FlagsCommand} → flags_command t ≡ c → flags_size c ≤ length t
+pub flags_fits : (t : List ℕ) {c : Result ℕ CommandError} → flags_command t ≡ c → flags_size c ≤ length t
 unfolding flags_command
 flags_fits [] e = subst (Within flags_size []) e (omega arith)
 flags_fits (b ∷ t) e =
-    let P : FlagsCommand → Type 0 = Within flags_size (b ∷ t) in
+    let P : Result ℕ CommandError → Type 0 = Within flags_size (b ∷ t) in
     subst P e
     (choose P (eqb b 0x61) (with_operands P 2 t (omega arith) (λ h. choose P (ltb (u16_at t 0) 256) (omega arith) (omega arith))) (omega arith))
 
-pub option_fits : (last : ℕ) (t : List ℕ) {c : OptionCommand} → option_command last t ≡ c → option_size c ≤ length t
+pub option_fits : (last : ℕ) (t : List ℕ) {c : Result (Option OptionCommand) CommandError} → option_command last t ≡ c → option_size c ≤ length t
 unfolding option_command
 option_fits last [] e = subst (Within option_size []) e (omega arith)
 option_fits last (b ∷ t) e =
-    let P : OptionCommand → Type 0 = Within option_size (b ∷ t) in
+    let P : Result (Option OptionCommand) CommandError → Type 0 = Within option_size (b ∷ t) in
     subst P e
     (choose P (eqb b 0x60) (with_operands P 4 t (omega arith) (λ h. omega arith))
     (choose P (ltb last b && eqb b 0x62) (with_operands P 4 t (omega arith) (λ h. omega arith))
@@ -66,54 +68,48 @@ option_fits last (b ∷ t) e =
 
 -- ---- the root tape
 
-pub heritage_fits : (t : List ℕ) {c : HeritageCommand} → heritage_command t ≡ c → heritage_size c ≤ length t
+pub heritage_fits : (t : List ℕ) {c : Result ℕ CommandError} → heritage_command t ≡ c → heritage_size c ≤ length t
 unfolding heritage_command
 heritage_fits [] e = subst (Within heritage_size []) e (omega arith)
-heritage_fits (b ∷ []) e =
-    let P : HeritageCommand → Type 0 = Within heritage_size (b ∷ []) in
-    subst P e (choose P (eqb b 0x01) (omega arith) (omega arith))
-heritage_fits (b ∷ k ∷ t) e =
-    let P : HeritageCommand → Type 0 = Within heritage_size (b ∷ k ∷ t) in
-    subst P e (choose P (eqb b 0x01) (choose P (leb k 2) (omega arith) (omega arith)) (omega arith))
+heritage_fits (b ∷ t) e =
+    let P : Result ℕ CommandError → Type 0 = Within heritage_size (b ∷ t) in
+    subst P e
+    (choose P (eqb b 0x01) (with_operands P 1 t (omega arith) (λ h. choose P (leb (get_or t 0 0) 2) (omega arith) (omega arith))) (omega arith))
 
-pub scope_fits : (found : Bool) (t : List ℕ) {c : ScopeCommand} → scope_command found t ≡ c → scope_size c ≤ length t
+pub scope_fits : (found : Bool) (t : List ℕ) {c : Result ScopeCommand CommandError} → scope_command found t ≡ c → scope_size c ≤ length t
 unfolding scope_command
 scope_fits found [] e = subst (Within scope_size []) e (omega arith)
 scope_fits found (b ∷ t) e =
-    let P : ScopeCommand → Type 0 = Within scope_size (b ∷ t) in
+    let P : Result ScopeCommand CommandError → Type 0 = Within scope_size (b ∷ t) in
     subst P e
-    (choose P (eqb b 0x02) (kind t)
+    (choose P (eqb b 0x02) (with_operands P 1 t (omega arith) (λ h. choose P (leb (get_or t 0 0) 3) (omega arith) (omega arith)))
     (choose P (found && eqb b 0x10) (with_operands P 8 t (omega arith) (λ h. omega arith))
     (choose P (found && eqb b 0x11) (with_operands P 8 t (omega arith) (λ h. omega arith)) (omega arith))))
-  where
-    kind : (t : List ℕ) → Within scope_size (b ∷ t) (scope_with t)
-    kind [] = omega arith
-    kind (k ∷ t) = choose (Within scope_size (b ∷ k ∷ t)) (leb k 3) (omega arith) (omega arith)
 
-pub name_fits : (t : List ℕ) {c : NameCommand} → name_command t ≡ c → name_size c ≤ length t
+pub name_fits : (t : List ℕ) {c : Result NameCommand CommandError} → name_command t ≡ c → name_size c ≤ length t
 unfolding name_command
 name_fits [] e = subst (Within name_size []) e (omega arith)
 name_fits (b ∷ t) e =
-    let P : NameCommand → Type 0 = Within name_size (b ∷ t) in
+    let P : Result NameCommand CommandError → Type 0 = Within name_size (b ∷ t) in
     subst P e
     (choose P (eqb b 0x20) (with_operands P 4 t (omega arith) (λ h. omega arith))
     (choose P (eqb b 0x21) (with_operands P 4 t (omega arith) (λ h. omega arith))
     (choose P (eqb b 0x22) (omega arith)
     (choose P (eqb b 0x23) (with_operands P 8 t (omega arith) (λ h. omega arith)) (omega arith)))))
 
-pub member_fits : (t : List ℕ) {c : MemberCommand} → member_command t ≡ c → member_size c ≤ length t
+pub member_fits : (t : List ℕ) {c : Result (Option Span) CommandError} → member_command t ≡ c → member_size c ≤ length t
 unfolding member_command
 member_fits [] e = subst (Within member_size []) e (omega arith)
 member_fits (b ∷ t) e =
-    let P : MemberCommand → Type 0 = Within member_size (b ∷ t) in
+    let P : Result (Option Span) CommandError → Type 0 = Within member_size (b ∷ t) in
     subst P e
     (choose P (eqb b 0x25) (with_operands P 4 t (omega arith) (λ h. omega arith)) (omega arith))
 
-pub attribute_fits : (t : List ℕ) {c : AttributeCommand} → attribute_command t ≡ c → attribute_size c ≤ length t
+pub attribute_fits : (t : List ℕ) {c : Result AttributeCommand CommandError} → attribute_command t ≡ c → attribute_size c ≤ length t
 unfolding attribute_command
 attribute_fits [] e = subst (Within attribute_size []) e (omega arith)
 attribute_fits (b ∷ t) e =
-    let P : AttributeCommand → Type 0 = Within attribute_size (b ∷ t) in
+    let P : Result AttributeCommand CommandError → Type 0 = Within attribute_size (b ∷ t) in
     subst P e
     (choose P (eqb b 0x30) (with_operands P 4 t (omega arith) (λ h. omega arith))
     (choose P (eqb b 0x31) (with_operands P 8 t (omega arith) (λ h. omega arith))
@@ -121,21 +117,21 @@ attribute_fits (b ∷ t) e =
     (choose P (eqb b 0x33) (with_operands P 2 t (omega arith) (λ h. omega arith))
     (choose P (eqb b 0x1e) (omega arith) (omega arith))))))
 
-pub property_fits : (t : List ℕ) {c : PropertyCommand} → property_command t ≡ c → property_size c ≤ length t
+pub property_fits : (t : List ℕ) {c : Result PropertyCommand CommandError} → property_command t ≡ c → property_size c ≤ length t
 unfolding property_command
 property_fits [] e = subst (Within property_size []) e (omega arith)
 property_fits (b ∷ t) e =
-    let P : PropertyCommand → Type 0 = Within property_size (b ∷ t) in
+    let P : Result PropertyCommand CommandError → Type 0 = Within property_size (b ∷ t) in
     subst P e
     (choose P (eqb b 0x34) (with_operands P 2 t (omega arith) (λ h. omega arith))
     (choose P (eqb b 0x36) (with_operands P 6 t (omega arith) (λ h. omega arith))
     (choose P (eqb b 0x35) (omega arith) (omega arith))))
 
-pub value_fits : (t : List ℕ) {c : ValueCommand} → value_command t ≡ c → value_size c ≤ length t
+pub value_fits : (t : List ℕ) {c : Result ValueCommand CommandError} → value_command t ≡ c → value_size c ≤ length t
 unfolding value_command
 value_fits [] e = subst (Within value_size []) e (omega arith)
 value_fits (b ∷ t) e =
-    let P : ValueCommand → Type 0 = Within value_size (b ∷ t) in
+    let P : Result ValueCommand CommandError → Type 0 = Within value_size (b ∷ t) in
     subst P e
     (choose P (eqb b 0x40) (omega arith)
     (choose P (eqb b 0x41) (with_operands P 4 t (omega arith) (λ h. omega arith))
@@ -144,11 +140,11 @@ value_fits (b ∷ t) e =
     (choose P (eqb b 0x10) (with_operands P 8 t (omega arith) (λ h. omega arith))
     (choose P (eqb b 0x11) (with_operands P 8 t (omega arith) (λ h. omega arith)) (omega arith)))))))
 
-pub child_fits : (t : List ℕ) {c : ChildCommand} → child_command t ≡ c → child_size c ≤ length t
+pub child_fits : (t : List ℕ) {c : Result ChildCommand CommandError} → child_command t ≡ c → child_size c ≤ length t
 unfolding child_command
 child_fits [] e = subst (Within child_size []) e (omega arith)
 child_fits (b ∷ t) e =
-    let P : ChildCommand → Type 0 = Within child_size (b ∷ t) in
+    let P : Result ChildCommand CommandError → Type 0 = Within child_size (b ∷ t) in
     subst P e
     (choose P (eqb b 0x50) (with_operands P 4 t (omega arith) (λ h. omega arith))
     (choose P (eqb b 0x42) (with_operands P 2 t (omega arith) (λ h. omega arith))

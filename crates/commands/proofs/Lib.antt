@@ -1,3 +1,2 @@
-pub mod Operands
 pub mod Lengths
 pub mod Rows

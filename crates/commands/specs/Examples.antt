@@ -1,14 +1,13 @@
 -- Worked examples, computed from the definitions: a table for each. `cut_at` lists what a reader says of a tape's beginnings, the empty one first.
-use Rattle.std.specs.Prelude.{ℕ, ◌≡◌, refl, true, false, List, [], ◌∷◌, ◌++◌, map, take, replicate}
+use Rattle.std.specs.Prelude.{ℕ, ◌≡◌, refl, true, false, List, [], ◌∷◌, ◌++◌, map, take, replicate, Option, None, Some, Result, Ok, Err}
 use Rattle.text.specs.declared.spans.Span.{Span}
-use Rattle.commands.specs.declared.opening.FlagsCommand.TheVariants as flags
+use Rattle.commands.specs.declared.error.CommandError.{CommandError}
+use Rattle.commands.specs.declared.error.CommandError.TheVariants.{Wrong, Cut, Bad}
 use Rattle.commands.specs.declared.opening.OptionCommand.{OptionCommand}
 use Rattle.commands.specs.declared.opening.OptionCommand.TheVariants as option
 use Rattle.commands.specs.declared.root.Place.{Place}
-use Rattle.commands.specs.declared.root.HeritageCommand.TheVariants as heritage
 use Rattle.commands.specs.declared.root.ScopeCommand.TheVariants as scope
 use Rattle.commands.specs.declared.root.NameCommand.TheVariants as name
-use Rattle.commands.specs.declared.root.MemberCommand.TheVariants as member
 use Rattle.commands.specs.declared.root.AttributeCommand.TheVariants as attribute
 use Rattle.commands.specs.declared.root.PropertyCommand.TheVariants as property
 use Rattle.commands.specs.declared.root.ValueCommand.TheVariants as value
@@ -36,16 +35,16 @@ pub flags_first :
     ∷ (0x60 ∷ 0xff ∷ 0x00 ∷ [])
     ∷ (0x62 ∷ [])
     ∷ [])
-    ≡ flags.Flags 255 ∷ flags.Bad ∷ flags.Wrong ∷ flags.Wrong ∷ []
+    ≡ Ok 255 ∷ Err Bad ∷ Err Wrong ∷ Err Wrong ∷ []
 unfolding flags_command
 flags_first = refl
 
-pub flags_cut : cut_at flags_command (0x61 ∷ 0x00 ∷ 0x01 ∷ []) (0 ∷ 1 ∷ 2 ∷ []) ≡ replicate 3 flags.Cut
+pub flags_cut : cut_at flags_command (0x61 ∷ 0x00 ∷ 0x01 ∷ []) (0 ∷ 1 ∷ 2 ∷ []) ≡ replicate 3 (Err Cut)
 unfolding flags_command
 flags_cut = refl
 
 -- what is read behind the command `last`
-abbrev pub after : ℕ × List ℕ → OptionCommand
+abbrev pub after : ℕ × List ℕ → Result (Option OptionCommand) CommandError
 after p = option_command p.0 p.1
 
 -- 62 63 64 60 60, each behind the one before it; then the tape's end
@@ -58,12 +57,12 @@ pub options_in_order :
     ∷ (0x64, 0x60 ∷ 1 ∷ 0 ∷ 2 ∷ 0 ∷ [])
     ∷ (0x64, [])
     ∷ [])
-    ≡ option.Pragma (span 1 2)
-    ∷ option.PragmaFrag (span 1 2)
-    ∷ option.ImportSource (span 1 2)
-    ∷ option.Comment (span 1 2)
-    ∷ option.Comment (span 1 2)
-    ∷ option.End
+    ≡ Ok (Some (option.Pragma (span 1 2)))
+    ∷ Ok (Some (option.PragmaFrag (span 1 2)))
+    ∷ Ok (Some (option.ImportSource (span 1 2)))
+    ∷ Ok (Some (option.Comment (span 1 2)))
+    ∷ Ok (Some (option.Comment (span 1 2)))
+    ∷ Ok None
     ∷ []
 unfolding option_command
 options_in_order = refl
@@ -79,7 +78,7 @@ pub options_by_order :
     ∷ (0x61, 0x61 ∷ 1 ∷ 0 ∷ [])
     ∷ (0x61, 0x65 ∷ [])
     ∷ [])
-    ≡ option.ImportSource (span 1 2) ∷ option.Comment (span 1 2) ∷ replicate 5 option.Wrong
+    ≡ Ok (Some (option.ImportSource (span 1 2))) ∷ Ok (Some (option.Comment (span 1 2))) ∷ replicate 5 (Err Wrong)
 unfolding option_command
 options_by_order = refl
 
@@ -87,7 +86,7 @@ options_by_order = refl
 pub options_cut :
     cut_at (option_command 0x61) (0x62 ∷ 1 ∷ 0 ∷ 2 ∷ 0 ∷ []) (0 ∷ 1 ∷ 2 ∷ 3 ∷ 4 ∷ [])
     ++ cut_at (option_command 0x62) (0x62 ∷ 1 ∷ 0 ∷ 2 ∷ 0 ∷ []) (0 ∷ 1 ∷ 2 ∷ 3 ∷ 4 ∷ [])
-    ≡ (option.End ∷ replicate 4 option.Cut) ++ (option.End ∷ replicate 4 option.Wrong)
+    ≡ (Ok None ∷ replicate 4 (Err Cut)) ++ (Ok None ∷ replicate 4 (Err Wrong))
 unfolding option_command
 options_cut = refl
 
@@ -96,7 +95,7 @@ options_cut = refl
 -- a command that may not stand there comes first, then operands cut off, then a bad operand
 pub heritage_order :
     map heritage_command ([] ∷ (0x02 ∷ []) ∷ (0x02 ∷ 0 ∷ []) ∷ (0x01 ∷ []) ∷ (0x01 ∷ 3 ∷ []) ∷ (0x01 ∷ 0 ∷ []) ∷ (0x01 ∷ 1 ∷ 9 ∷ []) ∷ (0x01 ∷ 2 ∷ []) ∷ [])
-    ≡ heritage.Cut ∷ heritage.Wrong ∷ heritage.Wrong ∷ heritage.Cut ∷ heritage.Bad ∷ heritage.Heritage 0 ∷ heritage.Heritage 1 ∷ heritage.Heritage 2 ∷ []
+    ≡ Err Cut ∷ Err Wrong ∷ Err Wrong ∷ Err Cut ∷ Err Bad ∷ Ok 0 ∷ Ok 1 ∷ Ok 2 ∷ []
 unfolding heritage_command
 heritage_order = refl
 
@@ -116,21 +115,21 @@ scopes =
 -- an element or a fragment comes behind a scope of kind 2 or 3 alone
 pub scopes_before :
     map (scope_command false) scopes
-    ≡ scope.Scope 0 ∷ scope.Scope 3 ∷ scope.Bad ∷ scope.Cut ∷ scope.Wrong ∷ scope.Wrong ∷ scope.Wrong ∷ scope.Wrong ∷ scope.Cut ∷ []
+    ≡ Ok (scope.Scope 0) ∷ Ok (scope.Scope 3) ∷ Err Bad ∷ Err Cut ∷ Err Wrong ∷ Err Wrong ∷ Err Wrong ∷ Err Wrong ∷ Err Cut ∷ []
 unfolding scope_command
 scopes_before = refl
 
 pub scopes_behind :
     map (scope_command true) scopes
-    ≡ scope.Scope 0
-    ∷ scope.Scope 3
-    ∷ scope.Bad
-    ∷ scope.Cut
-    ∷ scope.Element (place 1 258)
-    ∷ scope.Fragment (place 1 258)
-    ∷ scope.Cut
-    ∷ scope.Wrong
-    ∷ scope.Cut
+    ≡ Ok (scope.Scope 0)
+    ∷ Ok (scope.Scope 3)
+    ∷ Err Bad
+    ∷ Err Cut
+    ∷ Ok (scope.Element (place 1 258))
+    ∷ Ok (scope.Fragment (place 1 258))
+    ∷ Err Cut
+    ∷ Err Wrong
+    ∷ Err Cut
     ∷ []
 unfolding scope_command
 scopes_behind = refl
@@ -144,19 +143,19 @@ pub names_read :
     ∷ (0x25 ∷ 1 ∷ 0 ∷ 2 ∷ 0 ∷ [])
     ∷ (0x24 ∷ [])
     ∷ [])
-    ≡ name.Plain (span 1 2)
-    ∷ name.Identifier (span 1 2)
-    ∷ name.This
-    ∷ name.Namespaced (span 1 2) (span 3 4)
-    ∷ name.Wrong
-    ∷ name.Wrong
+    ≡ Ok (name.Plain (span 1 2))
+    ∷ Ok (name.Identifier (span 1 2))
+    ∷ Ok name.This
+    ∷ Ok (name.Namespaced (span 1 2) (span 3 4))
+    ∷ Err Wrong
+    ∷ Err Wrong
     ∷ []
 unfolding name_command
 names_read = refl
 
 pub names_cut :
     cut_at name_command (0x23 ∷ 1 ∷ 0 ∷ 2 ∷ 0 ∷ 3 ∷ 0 ∷ 4 ∷ 0 ∷ []) (0 ∷ 1 ∷ 2 ∷ 3 ∷ 4 ∷ 5 ∷ 6 ∷ 7 ∷ 8 ∷ 9 ∷ [])
-    ≡ replicate 9 name.Cut ++ (name.Namespaced (span 1 2) (span 3 4) ∷ [])
+    ≡ replicate 9 (Err Cut) ++ (Ok (name.Namespaced (span 1 2) (span 3 4)) ∷ [])
 unfolding name_command
 names_cut = refl
 
@@ -170,7 +169,7 @@ pub members_read :
     ∷ (0x99 ∷ [])
     ∷ []
     ∷ [])
-    ≡ member.Member (span 1 2) ∷ member.Cut ∷ member.Cut ∷ member.Other ∷ member.Other ∷ member.Other ∷ []
+    ≡ Ok (Some (span 1 2)) ∷ Err Cut ∷ Err Cut ∷ Ok None ∷ Ok None ∷ Ok None ∷ []
 unfolding member_command
 members_read = refl
 
@@ -186,15 +185,15 @@ pub attributes_read :
     ∷ (0x32 ∷ 1 ∷ [])
     ∷ []
     ∷ [])
-    ≡ attribute.Plain (span 1 2)
-    ∷ attribute.Namespaced (span 1 2) (span 3 4)
-    ∷ attribute.Spread 513
-    ∷ attribute.Literal 513
-    ∷ attribute.End
-    ∷ attribute.Wrong
-    ∷ attribute.Wrong
-    ∷ attribute.Cut
-    ∷ attribute.Cut
+    ≡ Ok (attribute.Plain (span 1 2))
+    ∷ Ok (attribute.Namespaced (span 1 2) (span 3 4))
+    ∷ Ok (attribute.Spread 513)
+    ∷ Ok (attribute.Literal 513)
+    ∷ Ok attribute.End
+    ∷ Err Wrong
+    ∷ Err Wrong
+    ∷ Err Cut
+    ∷ Err Cut
     ∷ []
 unfolding attribute_command
 attributes_read = refl
@@ -207,12 +206,12 @@ pub properties_read :
     ∷ (0x1e ∷ [])
     ∷ (0x37 ∷ [])
     ∷ [])
-    ≡ property.Property 513 ∷ property.Named 513 (span 3 0) ∷ property.End ∷ property.Wrong ∷ property.Wrong ∷ []
+    ≡ Ok (property.Property 513) ∷ Ok (property.Named 513 (span 3 0)) ∷ Ok property.End ∷ Err Wrong ∷ Err Wrong ∷ []
 unfolding property_command
 properties_read = refl
 
 pub properties_cut :
-    cut_at property_command (0x36 ∷ 1 ∷ 2 ∷ 3 ∷ 0 ∷ 0 ∷ 0 ∷ []) (0 ∷ 1 ∷ 2 ∷ 3 ∷ 4 ∷ 5 ∷ 6 ∷ []) ≡ replicate 7 property.Cut
+    cut_at property_command (0x36 ∷ 1 ∷ 2 ∷ 3 ∷ 0 ∷ 0 ∷ 0 ∷ []) (0 ∷ 1 ∷ 2 ∷ 3 ∷ 4 ∷ 5 ∷ 6 ∷ []) ≡ replicate 7 (Err Cut)
 unfolding property_command
 properties_cut = refl
 
@@ -229,16 +228,16 @@ pub values_read :
     ∷ (0x41 ∷ 1 ∷ 0 ∷ 2 ∷ [])
     ∷ []
     ∷ [])
-    ≡ value.Absent
-    ∷ value.Text (span 1 2)
-    ∷ value.Expression 513
-    ∷ value.Empty
-    ∷ value.Element (place 1 258)
-    ∷ value.Fragment (place 4294967295 0)
-    ∷ value.Wrong
-    ∷ value.Wrong
-    ∷ value.Cut
-    ∷ value.Cut
+    ≡ Ok value.Absent
+    ∷ Ok (value.Text (span 1 2))
+    ∷ Ok (value.Expression 513)
+    ∷ Ok value.Empty
+    ∷ Ok (value.Element (place 1 258))
+    ∷ Ok (value.Fragment (place 4294967295 0))
+    ∷ Err Wrong
+    ∷ Err Wrong
+    ∷ Err Cut
+    ∷ Err Cut
     ∷ []
 unfolding value_command
 values_read = refl
@@ -255,21 +254,21 @@ pub children_read :
     ∷ (0x41 ∷ 1 ∷ 0 ∷ 2 ∷ 0 ∷ [])
     ∷ (0x1e ∷ [])
     ∷ [])
-    ≡ child.Text (span 1 2)
-    ∷ child.Expression 513
-    ∷ child.Empty
-    ∷ child.Spread 513
-    ∷ child.Element (place 1 258)
-    ∷ child.Fragment (place 1 258)
-    ∷ child.End
-    ∷ child.Wrong
-    ∷ child.Wrong
+    ≡ Ok (child.Text (span 1 2))
+    ∷ Ok (child.Expression 513)
+    ∷ Ok child.Empty
+    ∷ Ok (child.Spread 513)
+    ∷ Ok (child.Element (place 1 258))
+    ∷ Ok (child.Fragment (place 1 258))
+    ∷ Ok child.End
+    ∷ Err Wrong
+    ∷ Err Wrong
     ∷ []
 unfolding child_command
 children_read = refl
 
 pub children_cut :
-    cut_at child_command (0x10 ∷ 1 ∷ 0 ∷ 0 ∷ 0 ∷ 2 ∷ 1 ∷ 0 ∷ 0 ∷ []) (0 ∷ 1 ∷ 2 ∷ 3 ∷ 4 ∷ 5 ∷ 6 ∷ 7 ∷ 8 ∷ []) ≡ replicate 9 child.Cut
+    cut_at child_command (0x10 ∷ 1 ∷ 0 ∷ 0 ∷ 0 ∷ 2 ∷ 1 ∷ 0 ∷ 0 ∷ []) (0 ∷ 1 ∷ 2 ∷ 3 ∷ 4 ∷ 5 ∷ 6 ∷ 7 ∷ 8 ∷ []) ≡ replicate 9 (Err Cut)
 unfolding child_command
 children_cut = refl
 

@@ -1,3 +1,4 @@
+pub mod Operands
 pub mod Opening
 pub mod Root
 pub mod Sizes

@@ -1,17 +1,13 @@
 -- How many bytes of its tape a command takes: one for its code, and its operands. What is none takes 0.
-use Rattle.std.specs.Prelude.{ℕ, cond, List, [], ◌∷◌, eqb}
-use Rattle.commands.specs.declared.opening.FlagsCommand.{FlagsCommand}
-use Rattle.commands.specs.declared.opening.FlagsCommand.TheVariants as flags
+use Rattle.std.specs.Prelude.{ℕ, cond, List, [], ◌∷◌, eqb, Option, None, Some, Result, Ok, Err}
+use Rattle.text.specs.declared.spans.Span.{Span}
+use Rattle.commands.specs.declared.error.CommandError.{CommandError}
 use Rattle.commands.specs.declared.opening.OptionCommand.{OptionCommand}
 use Rattle.commands.specs.declared.opening.OptionCommand.TheVariants as option
-use Rattle.commands.specs.declared.root.HeritageCommand.{HeritageCommand}
-use Rattle.commands.specs.declared.root.HeritageCommand.TheVariants as heritage
 use Rattle.commands.specs.declared.root.ScopeCommand.{ScopeCommand}
 use Rattle.commands.specs.declared.root.ScopeCommand.TheVariants as scope
 use Rattle.commands.specs.declared.root.NameCommand.{NameCommand}
 use Rattle.commands.specs.declared.root.NameCommand.TheVariants as name
-use Rattle.commands.specs.declared.root.MemberCommand.{MemberCommand}
-use Rattle.commands.specs.declared.root.MemberCommand.TheVariants as member
 use Rattle.commands.specs.declared.root.AttributeCommand.{AttributeCommand}
 use Rattle.commands.specs.declared.root.AttributeCommand.TheVariants as attribute
 use Rattle.commands.specs.declared.root.PropertyCommand.{PropertyCommand}
@@ -90,84 +86,72 @@ command_size code = size_in root_commands code
 
 -- ---- by what was read: the opening tape. What is no command, by its place or by its operands, takes 0
 
-abbrev pub flags_size : FlagsCommand → ℕ
-flags_size (flags.Flags f) = with_flags
-flags_size flags.Wrong = 0
-flags_size flags.Cut = 0
-flags_size flags.Bad = 0
+abbrev pub flags_size : Result ℕ CommandError → ℕ
+flags_size (Ok f) = with_flags
+flags_size (Err e) = 0
 
-abbrev pub option_size : OptionCommand → ℕ
-option_size (option.Pragma s) = with_span
-option_size (option.PragmaFrag s) = with_span
-option_size (option.ImportSource s) = with_span
-option_size (option.Comment s) = with_span
-option_size option.End = 0
-option_size option.Wrong = 0
-option_size option.Cut = 0
+abbrev pub option_size : Result (Option OptionCommand) CommandError → ℕ
+option_size (Ok (Some (option.Pragma s))) = with_span
+option_size (Ok (Some (option.PragmaFrag s))) = with_span
+option_size (Ok (Some (option.ImportSource s))) = with_span
+option_size (Ok (Some (option.Comment s))) = with_span
+option_size (Ok None) = 0
+option_size (Err e) = 0
 
 -- ---- the root tape
 
-abbrev pub heritage_size : HeritageCommand → ℕ
-heritage_size (heritage.Heritage k) = with_kind
-heritage_size heritage.Wrong = 0
-heritage_size heritage.Cut = 0
-heritage_size heritage.Bad = 0
+abbrev pub heritage_size : Result ℕ CommandError → ℕ
+heritage_size (Ok k) = with_kind
+heritage_size (Err e) = 0
 
-abbrev pub scope_size : ScopeCommand → ℕ
-scope_size (scope.Scope k) = with_kind
-scope_size (scope.Element p) = with_place
-scope_size (scope.Fragment p) = with_place
-scope_size scope.Wrong = 0
-scope_size scope.Cut = 0
-scope_size scope.Bad = 0
+abbrev pub scope_size : Result ScopeCommand CommandError → ℕ
+scope_size (Ok (scope.Scope k)) = with_kind
+scope_size (Ok (scope.Element p)) = with_place
+scope_size (Ok (scope.Fragment p)) = with_place
+scope_size (Err e) = 0
 
-abbrev pub name_size : NameCommand → ℕ
-name_size (name.Plain s) = with_span
-name_size (name.Identifier s) = with_span
-name_size name.This = bare
-name_size (name.Namespaced s n) = with_spans
-name_size name.Wrong = 0
-name_size name.Cut = 0
+abbrev pub name_size : Result NameCommand CommandError → ℕ
+name_size (Ok (name.Plain s)) = with_span
+name_size (Ok (name.Identifier s)) = with_span
+name_size (Ok name.This) = bare
+name_size (Ok (name.Namespaced s n)) = with_spans
+name_size (Err e) = 0
 
--- `Other` is the command behind the name, which is not taken
-abbrev pub member_size : MemberCommand → ℕ
-member_size (member.Member s) = with_span
-member_size member.Other = 0
-member_size member.Cut = 0
+-- what ends the name is the command behind it, which is not taken
+abbrev pub member_size : Result (Option Span) CommandError → ℕ
+member_size (Ok (Some s)) = with_span
+member_size (Ok None) = 0
+member_size (Err e) = 0
 
-abbrev pub attribute_size : AttributeCommand → ℕ
-attribute_size (attribute.Plain s) = with_span
-attribute_size (attribute.Namespaced s n) = with_spans
-attribute_size (attribute.Spread e) = with_expression
-attribute_size (attribute.Literal e) = with_expression
-attribute_size attribute.End = bare
-attribute_size attribute.Wrong = 0
-attribute_size attribute.Cut = 0
+abbrev pub attribute_size : Result AttributeCommand CommandError → ℕ
+attribute_size (Ok (attribute.Plain s)) = with_span
+attribute_size (Ok (attribute.Namespaced s n)) = with_spans
+attribute_size (Ok (attribute.Spread e)) = with_expression
+attribute_size (Ok (attribute.Literal e)) = with_expression
+attribute_size (Ok attribute.End) = bare
+attribute_size (Err e) = 0
 
-abbrev pub property_size : PropertyCommand → ℕ
-property_size (property.Property e) = with_expression
-property_size (property.Named e s) = with_expression_and_span
-property_size property.End = bare
-property_size property.Wrong = 0
-property_size property.Cut = 0
+abbrev pub property_size : Result PropertyCommand CommandError → ℕ
+property_size (Ok (property.Property e)) = with_expression
+property_size (Ok (property.Named e s)) = with_expression_and_span
+property_size (Ok property.End) = bare
+property_size (Err e) = 0
 
-abbrev pub value_size : ValueCommand → ℕ
-value_size value.Absent = bare
-value_size (value.Text s) = with_span
-value_size (value.Expression e) = with_expression
-value_size value.Empty = bare
-value_size (value.Element p) = with_place
-value_size (value.Fragment p) = with_place
-value_size value.Wrong = 0
-value_size value.Cut = 0
+abbrev pub value_size : Result ValueCommand CommandError → ℕ
+value_size (Ok value.Absent) = bare
+value_size (Ok (value.Text s)) = with_span
+value_size (Ok (value.Expression e)) = with_expression
+value_size (Ok value.Empty) = bare
+value_size (Ok (value.Element p)) = with_place
+value_size (Ok (value.Fragment p)) = with_place
+value_size (Err e) = 0
 
-abbrev pub child_size : ChildCommand → ℕ
-child_size (child.Text s) = with_span
-child_size (child.Expression e) = with_expression
-child_size child.Empty = bare
-child_size (child.Spread e) = with_expression
-child_size (child.Element p) = with_place
-child_size (child.Fragment p) = with_place
-child_size child.End = bare
-child_size child.Wrong = 0
-child_size child.Cut = 0
+abbrev pub child_size : Result ChildCommand CommandError → ℕ
+child_size (Ok (child.Text s)) = with_span
+child_size (Ok (child.Expression e)) = with_expression
+child_size (Ok child.Empty) = bare
+child_size (Ok (child.Spread e)) = with_expression
+child_size (Ok (child.Element p)) = with_place
+child_size (Ok (child.Fragment p)) = with_place
+child_size (Ok child.End) = bare
+child_size (Err e) = 0

@@ -1,4 +1,5 @@
 // The codes of the commands, by the names that docs/TAPES.md lists them by.
+// kept: bytes of a tape, which readers match as they stand: an enum of them would need a match of its own to be read
 
 // ---- opening tape
 

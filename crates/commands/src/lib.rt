@@ -2,6 +2,7 @@
 #![tactic(auto)]
 
 pub mod codes;
+pub mod error;
 pub mod opening;
 pub mod root;
 pub mod sizes;

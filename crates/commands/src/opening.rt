@@ -3,96 +3,54 @@
 ghost use Rattle.std.specs.Prelude.{◌≡◌};
 ghost use Rattle.commands.specs.Opening.{flags_command, option_command};
 
-use crate::{codes, sizes};
-use tape::numbers::{read_span, read_u16};
+use crate::codes;
+use crate::error::{CommandError, operand};
 use text::spans::Span;
 
-// The first command.
-#[derive(Clone, Copy)]
-pub enum FlagsCommand {
-    Flags(u16),
-    Wrong,
-    Cut,
-    Bad,
-}
-
-// A command behind the first, or the tape's end.
+// A command behind the first.
 #[derive(Clone, Copy)]
 pub enum OptionCommand {
     Pragma(Span),
     PragmaFrag(Span),
     ImportSource(Span),
     Comment(Span),
-    End,
-    Wrong,
-    Cut,
 }
 
 // How many sets of the eight flags there are: all other bits are zero.
 const FLAG_SETS: u16 = 256;
 
-pub fn flags_command_at(tape: &[u8]) -> FlagsCommand
+// The first command: its flags.
+#[tactic(auto, unfolding(crate::specs::Opening::flags_command))]
+pub fn flags_command_at(tape: &[u8]) -> Result<u16, CommandError>
     ensures { result ≡ flags_command tape.now }
 {
-    if tape.len() == 0 {
-        return FlagsCommand::Cut;
+    match tape.split_first() {
+        None => Err(CommandError::Cut),
+        Some((&codes::FLAGS, rest)) => match operand(rest, 0)? {
+            flags if flags < FLAG_SETS => Ok(flags),
+            _ => Err(CommandError::Bad),
+        },
+        Some(_) => Err(CommandError::Wrong),
     }
-    if tape[0] != codes::FLAGS {
-        return FlagsCommand::Wrong;
-    }
-    let rest = &tape[1..];
-    if rest.len() < sizes::FLAGS {
-        return FlagsCommand::Cut;
-    }
-    let flags = read_u16(rest, 0);
-    if flags < FLAG_SETS {
-        return FlagsCommand::Flags(flags);
-    }
-    FlagsCommand::Bad
 }
 
-// `last` is the code of the last option on the tape, FLAGS where none has come, IMPORT_SOURCE once a comment has.
-pub fn option_command_at(last: u8, tape: &[u8]) -> OptionCommand
+// A command behind the first; none at the tape's end. `last` is the code of the last option on the tape, FLAGS where none has come, IMPORT_SOURCE once a comment has.
+#[tactic(auto, unfolding(crate::specs::Opening::option_command))]
+pub fn option_command_at(last: u8, tape: &[u8]) -> Result<Option<OptionCommand>, CommandError>
     ensures { result ≡ option_command last tape.now }
 {
-    if tape.len() == 0 {
-        return OptionCommand::End;
-    }
-    let rest = &tape[1..];
-    match tape[0] {
-        codes::COMMENT => {
-            if rest.len() < sizes::SPAN {
-                return OptionCommand::Cut;
-            }
-            OptionCommand::Comment(read_span(rest, 0))
+    let Some((&code, rest)) = tape.split_first() else {
+        return Ok(None);
+    };
+    match code {
+        codes::COMMENT => Ok(Some(OptionCommand::Comment(operand(rest, 0)?))),
+        codes::PRAGMA if last < codes::PRAGMA => Ok(Some(OptionCommand::Pragma(operand(rest, 0)?))),
+        codes::PRAGMA_FRAG if last < codes::PRAGMA_FRAG => {
+            Ok(Some(OptionCommand::PragmaFrag(operand(rest, 0)?)))
         }
-        codes::PRAGMA => {
-            if last >= codes::PRAGMA {
-                return OptionCommand::Wrong;
-            }
-            if rest.len() < sizes::SPAN {
-                return OptionCommand::Cut;
-            }
-            OptionCommand::Pragma(read_span(rest, 0))
+        codes::IMPORT_SOURCE if last < codes::IMPORT_SOURCE => {
+            Ok(Some(OptionCommand::ImportSource(operand(rest, 0)?)))
         }
-        codes::PRAGMA_FRAG => {
-            if last >= codes::PRAGMA_FRAG {
-                return OptionCommand::Wrong;
-            }
-            if rest.len() < sizes::SPAN {
-                return OptionCommand::Cut;
-            }
-            OptionCommand::PragmaFrag(read_span(rest, 0))
-        }
-        codes::IMPORT_SOURCE => {
-            if last >= codes::IMPORT_SOURCE {
-                return OptionCommand::Wrong;
-            }
-            if rest.len() < sizes::SPAN {
-                return OptionCommand::Cut;
-            }
-            OptionCommand::ImportSource(read_span(rest, 0))
-        }
-        _ => OptionCommand::Wrong,
+        _ => Err(CommandError::Wrong),
     }
 }

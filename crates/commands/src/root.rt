@@ -1,10 +1,11 @@
 // The commands of the root tape, a reader for each place where commands may stand. Each tests in the order of docs/TAPES.md, "Refusals": a
 // command that may not stand there, operands cut off, an operand that is not allowed.
-ghost use Rattle.std.specs.Prelude.{◌≡◌, ◌+◌, ◌≤◌, length};
+ghost use Rattle.std.specs.Prelude.{◌≡◌};
 ghost use Rattle.commands.specs.Root.{place_at, heritage_command, scope_command, name_command, member_command, attribute_command, property_command, value_command, child_command};
 
-use crate::{codes, sizes};
-use tape::numbers::{read_span, read_u16, read_u32};
+use crate::codes;
+use crate::error::{CommandError, operand, operand_pair};
+use tape::numbers::Operand;
 use text::spans::Span;
 
 // Where an element or a fragment stands in the source, both numbers from 0.
@@ -14,12 +15,19 @@ pub struct Place {
     pub column: u32,
 }
 
-#[derive(Clone, Copy)]
-pub enum HeritageCommand {
-    Heritage(u8),
-    Wrong,
-    Cut,
-    Bad,
+impl Operand for Place {
+    ghost SIZE = { 8 };
+
+    ghost value = { place_at };
+
+    const SIZE: usize = 8;
+
+    fn read(tape: &[u8], at: usize) -> Place {
+        Place {
+            line: u32::read(tape, at),
+            column: u32::read(tape, at + 4),
+        }
+    }
 }
 
 #[derive(Clone, Copy)]
@@ -27,9 +35,6 @@ pub enum ScopeCommand {
     Scope(u8),
     Element(Place),
     Fragment(Place),
-    Wrong,
-    Cut,
-    Bad,
 }
 
 #[derive(Clone, Copy)]
@@ -38,16 +43,6 @@ pub enum NameCommand {
     Identifier(Span),
     This,
     Namespaced(Span, Span),
-    Wrong,
-    Cut,
-}
-
-// A property of an identifier or of `this`; any other command ends the name.
-#[derive(Clone, Copy)]
-pub enum MemberCommand {
-    Member(Span),
-    Other,
-    Cut,
 }
 
 #[derive(Clone, Copy)]
@@ -57,8 +52,6 @@ pub enum AttributeCommand {
     Spread(u16),
     Literal(u16),
     End,
-    Wrong,
-    Cut,
 }
 
 #[derive(Clone, Copy)]
@@ -66,8 +59,6 @@ pub enum PropertyCommand {
     Property(u16),
     Named(u16, Span),
     End,
-    Wrong,
-    Cut,
 }
 
 #[derive(Clone, Copy)]
@@ -78,8 +69,6 @@ pub enum ValueCommand {
     Empty,
     Element(Place),
     Fragment(Place),
-    Wrong,
-    Cut,
 }
 
 #[derive(Clone, Copy)]
@@ -91,275 +80,148 @@ pub enum ChildCommand {
     Element(Place),
     Fragment(Place),
     End,
-    Wrong,
-    Cut,
-}
-
-// The line and the column of the eight bytes from `at` on.
-fn read_place(tape: &[u8], at: usize) -> Place
-    requires { at + 8 ≤ length tape.now }
-    ensures { result ≡ place_at tape.now at }
-{
-    Place {
-        line: read_u32(tape, at),
-        column: read_u32(tape, at + 4),
-    }
 }
 
 // The heritages: 0 none, 1 a class without a superclass, 2 a class with one.
 const LAST_HERITAGE: u8 = 2;
 
-pub fn heritage_command_at(tape: &[u8]) -> HeritageCommand
+#[tactic(auto, unfolding(crate::specs::Root::heritage_command))]
+pub fn heritage_command_at(tape: &[u8]) -> Result<u8, CommandError>
     ensures { result ≡ heritage_command tape.now }
 {
-    if tape.len() == 0 {
-        return HeritageCommand::Cut;
+    match tape.split_first() {
+        None => Err(CommandError::Cut),
+        Some((&codes::HERITAGE, rest)) => match operand(rest, 0)? {
+            kind if kind <= LAST_HERITAGE => Ok(kind),
+            _ => Err(CommandError::Bad),
+        },
+        Some(_) => Err(CommandError::Wrong),
     }
-    if tape[0] != codes::HERITAGE {
-        return HeritageCommand::Wrong;
-    }
-    let rest = &tape[1..];
-    if rest.len() < sizes::KIND {
-        return HeritageCommand::Cut;
-    }
-    let kind = rest[0];
-    if kind > LAST_HERITAGE {
-        return HeritageCommand::Bad;
-    }
-    HeritageCommand::Heritage(kind)
 }
 
 // The kinds of scopes: 0 a block, 1 an arrow, 2 a constructor, 3 any other function.
 const LAST_SCOPE: u8 = 3;
 
 // `found`: a scope of kind 2 or 3 has come.
-pub fn scope_command_at(found: bool, tape: &[u8]) -> ScopeCommand
+#[tactic(auto, unfolding(crate::specs::Root::scope_command))]
+pub fn scope_command_at(found: bool, tape: &[u8]) -> Result<ScopeCommand, CommandError>
     ensures { result ≡ scope_command found tape.now }
 {
-    if tape.len() == 0 {
-        return ScopeCommand::Cut;
-    }
-    let rest = &tape[1..];
-    match tape[0] {
-        codes::SCOPE => {
-            if rest.len() < sizes::KIND {
-                return ScopeCommand::Cut;
-            }
-            let kind = rest[0];
-            if kind > LAST_SCOPE {
-                return ScopeCommand::Bad;
-            }
-            ScopeCommand::Scope(kind)
-        }
-        codes::ELEMENT => {
-            if !found {
-                return ScopeCommand::Wrong;
-            }
-            if rest.len() < sizes::PLACE {
-                return ScopeCommand::Cut;
-            }
-            ScopeCommand::Element(read_place(rest, 0))
-        }
-        codes::FRAGMENT => {
-            if !found {
-                return ScopeCommand::Wrong;
-            }
-            if rest.len() < sizes::PLACE {
-                return ScopeCommand::Cut;
-            }
-            ScopeCommand::Fragment(read_place(rest, 0))
-        }
-        _ => ScopeCommand::Wrong,
+    let Some((&code, rest)) = tape.split_first() else {
+        return Err(CommandError::Cut);
+    };
+    match code {
+        codes::SCOPE => match operand(rest, 0)? {
+            kind if kind <= LAST_SCOPE => Ok(ScopeCommand::Scope(kind)),
+            _ => Err(CommandError::Bad),
+        },
+        codes::ELEMENT if found => Ok(ScopeCommand::Element(operand(rest, 0)?)),
+        codes::FRAGMENT if found => Ok(ScopeCommand::Fragment(operand(rest, 0)?)),
+        _ => Err(CommandError::Wrong),
     }
 }
 
-pub fn name_command_at(tape: &[u8]) -> NameCommand
+#[tactic(auto, unfolding(crate::specs::Root::name_command))]
+pub fn name_command_at(tape: &[u8]) -> Result<NameCommand, CommandError>
     ensures { result ≡ name_command tape.now }
 {
-    if tape.len() == 0 {
-        return NameCommand::Cut;
-    }
-    let rest = &tape[1..];
-    match tape[0] {
-        codes::TAG => {
-            if rest.len() < sizes::SPAN {
-                return NameCommand::Cut;
-            }
-            NameCommand::Plain(read_span(rest, 0))
-        }
-        codes::TAG_IDENTIFIER => {
-            if rest.len() < sizes::SPAN {
-                return NameCommand::Cut;
-            }
-            NameCommand::Identifier(read_span(rest, 0))
-        }
-        codes::TAG_THIS => NameCommand::This,
+    let Some((&code, rest)) = tape.split_first() else {
+        return Err(CommandError::Cut);
+    };
+    match code {
+        codes::TAG => Ok(NameCommand::Plain(operand(rest, 0)?)),
+        codes::TAG_IDENTIFIER => Ok(NameCommand::Identifier(operand(rest, 0)?)),
+        codes::TAG_THIS => Ok(NameCommand::This),
         codes::TAG_NAMESPACED => {
-            if rest.len() < sizes::SPANS {
-                return NameCommand::Cut;
-            }
-            NameCommand::Namespaced(read_span(rest, 0), read_span(rest, sizes::SPAN))
+            let (namespace, name) = operand_pair(rest)?;
+            Ok(NameCommand::Namespaced(namespace, name))
         }
-        _ => NameCommand::Wrong,
+        _ => Err(CommandError::Wrong),
     }
 }
 
-pub fn member_command_at(tape: &[u8]) -> MemberCommand
+// A property of an identifier or of `this`; none where any other command ends the name.
+#[tactic(auto, unfolding(crate::specs::Root::member_command))]
+pub fn member_command_at(tape: &[u8]) -> Result<Option<Span>, CommandError>
     ensures { result ≡ member_command tape.now }
 {
-    if tape.len() == 0 {
-        return MemberCommand::Other;
+    match tape.split_first() {
+        Some((&codes::TAG_MEMBER, rest)) => Ok(Some(operand(rest, 0)?)),
+        _ => Ok(None),
     }
-    if tape[0] != codes::TAG_MEMBER {
-        return MemberCommand::Other;
-    }
-    let rest = &tape[1..];
-    if rest.len() < sizes::SPAN {
-        return MemberCommand::Cut;
-    }
-    MemberCommand::Member(read_span(rest, 0))
 }
 
-pub fn attribute_command_at(tape: &[u8]) -> AttributeCommand
+#[tactic(auto, unfolding(crate::specs::Root::attribute_command))]
+pub fn attribute_command_at(tape: &[u8]) -> Result<AttributeCommand, CommandError>
     ensures { result ≡ attribute_command tape.now }
 {
-    if tape.len() == 0 {
-        return AttributeCommand::Cut;
-    }
-    let rest = &tape[1..];
-    match tape[0] {
-        codes::ATTRIBUTE => {
-            if rest.len() < sizes::SPAN {
-                return AttributeCommand::Cut;
-            }
-            AttributeCommand::Plain(read_span(rest, 0))
-        }
+    let Some((&code, rest)) = tape.split_first() else {
+        return Err(CommandError::Cut);
+    };
+    match code {
+        codes::ATTRIBUTE => Ok(AttributeCommand::Plain(operand(rest, 0)?)),
         codes::ATTRIBUTE_NAMESPACED => {
-            if rest.len() < sizes::SPANS {
-                return AttributeCommand::Cut;
-            }
-            AttributeCommand::Namespaced(read_span(rest, 0), read_span(rest, sizes::SPAN))
+            let (namespace, name) = operand_pair(rest)?;
+            Ok(AttributeCommand::Namespaced(namespace, name))
         }
-        codes::SPREAD_ATTRIBUTE => {
-            if rest.len() < sizes::EXPRESSION {
-                return AttributeCommand::Cut;
-            }
-            AttributeCommand::Spread(read_u16(rest, 0))
-        }
-        codes::LITERAL => {
-            if rest.len() < sizes::EXPRESSION {
-                return AttributeCommand::Cut;
-            }
-            AttributeCommand::Literal(read_u16(rest, 0))
-        }
-        codes::END_ATTRIBUTES => AttributeCommand::End,
-        _ => AttributeCommand::Wrong,
+        codes::SPREAD_ATTRIBUTE => Ok(AttributeCommand::Spread(operand(rest, 0)?)),
+        codes::LITERAL => Ok(AttributeCommand::Literal(operand(rest, 0)?)),
+        codes::END_ATTRIBUTES => Ok(AttributeCommand::End),
+        _ => Err(CommandError::Wrong),
     }
 }
 
-pub fn property_command_at(tape: &[u8]) -> PropertyCommand
+#[tactic(auto, unfolding(crate::specs::Root::property_command))]
+pub fn property_command_at(tape: &[u8]) -> Result<PropertyCommand, CommandError>
     ensures { result ≡ property_command tape.now }
 {
-    if tape.len() == 0 {
-        return PropertyCommand::Cut;
-    }
-    let rest = &tape[1..];
-    match tape[0] {
-        codes::PROPERTY => {
-            if rest.len() < sizes::EXPRESSION {
-                return PropertyCommand::Cut;
-            }
-            PropertyCommand::Property(read_u16(rest, 0))
-        }
+    let Some((&code, rest)) = tape.split_first() else {
+        return Err(CommandError::Cut);
+    };
+    match code {
+        codes::PROPERTY => Ok(PropertyCommand::Property(operand(rest, 0)?)),
         codes::NAMED_PROPERTY => {
-            if rest.len() < sizes::EXPRESSION_AND_SPAN {
-                return PropertyCommand::Cut;
-            }
-            PropertyCommand::Named(read_u16(rest, 0), read_span(rest, sizes::EXPRESSION))
+            let (value, name) = operand_pair(rest)?;
+            Ok(PropertyCommand::Named(value, name))
         }
-        codes::END_LITERAL => PropertyCommand::End,
-        _ => PropertyCommand::Wrong,
+        codes::END_LITERAL => Ok(PropertyCommand::End),
+        _ => Err(CommandError::Wrong),
     }
 }
 
-pub fn value_command_at(tape: &[u8]) -> ValueCommand
+#[tactic(auto, unfolding(crate::specs::Root::value_command))]
+pub fn value_command_at(tape: &[u8]) -> Result<ValueCommand, CommandError>
     ensures { result ≡ value_command tape.now }
 {
-    if tape.len() == 0 {
-        return ValueCommand::Cut;
-    }
-    let rest = &tape[1..];
-    match tape[0] {
-        codes::NO_VALUE => ValueCommand::Absent,
-        codes::STRING_VALUE => {
-            if rest.len() < sizes::SPAN {
-                return ValueCommand::Cut;
-            }
-            ValueCommand::Text(read_span(rest, 0))
-        }
-        codes::CONTAINER => {
-            if rest.len() < sizes::EXPRESSION {
-                return ValueCommand::Cut;
-            }
-            ValueCommand::Expression(read_u16(rest, 0))
-        }
-        codes::EMPTY_CONTAINER => ValueCommand::Empty,
-        codes::ELEMENT => {
-            if rest.len() < sizes::PLACE {
-                return ValueCommand::Cut;
-            }
-            ValueCommand::Element(read_place(rest, 0))
-        }
-        codes::FRAGMENT => {
-            if rest.len() < sizes::PLACE {
-                return ValueCommand::Cut;
-            }
-            ValueCommand::Fragment(read_place(rest, 0))
-        }
-        _ => ValueCommand::Wrong,
+    let Some((&code, rest)) = tape.split_first() else {
+        return Err(CommandError::Cut);
+    };
+    match code {
+        codes::NO_VALUE => Ok(ValueCommand::Absent),
+        codes::STRING_VALUE => Ok(ValueCommand::Text(operand(rest, 0)?)),
+        codes::CONTAINER => Ok(ValueCommand::Expression(operand(rest, 0)?)),
+        codes::EMPTY_CONTAINER => Ok(ValueCommand::Empty),
+        codes::ELEMENT => Ok(ValueCommand::Element(operand(rest, 0)?)),
+        codes::FRAGMENT => Ok(ValueCommand::Fragment(operand(rest, 0)?)),
+        _ => Err(CommandError::Wrong),
     }
 }
 
-pub fn child_command_at(tape: &[u8]) -> ChildCommand
+#[tactic(auto, unfolding(crate::specs::Root::child_command))]
+pub fn child_command_at(tape: &[u8]) -> Result<ChildCommand, CommandError>
     ensures { result ≡ child_command tape.now }
 {
-    if tape.len() == 0 {
-        return ChildCommand::Cut;
-    }
-    let rest = &tape[1..];
-    match tape[0] {
-        codes::TEXT => {
-            if rest.len() < sizes::SPAN {
-                return ChildCommand::Cut;
-            }
-            ChildCommand::Text(read_span(rest, 0))
-        }
-        codes::CONTAINER => {
-            if rest.len() < sizes::EXPRESSION {
-                return ChildCommand::Cut;
-            }
-            ChildCommand::Expression(read_u16(rest, 0))
-        }
-        codes::EMPTY_CONTAINER => ChildCommand::Empty,
-        codes::SPREAD_CHILD => {
-            if rest.len() < sizes::EXPRESSION {
-                return ChildCommand::Cut;
-            }
-            ChildCommand::Spread(read_u16(rest, 0))
-        }
-        codes::ELEMENT => {
-            if rest.len() < sizes::PLACE {
-                return ChildCommand::Cut;
-            }
-            ChildCommand::Element(read_place(rest, 0))
-        }
-        codes::FRAGMENT => {
-            if rest.len() < sizes::PLACE {
-                return ChildCommand::Cut;
-            }
-            ChildCommand::Fragment(read_place(rest, 0))
-        }
-        codes::END => ChildCommand::End,
-        _ => ChildCommand::Wrong,
+    let Some((&code, rest)) = tape.split_first() else {
+        return Err(CommandError::Cut);
+    };
+    match code {
+        codes::TEXT => Ok(ChildCommand::Text(operand(rest, 0)?)),
+        codes::CONTAINER => Ok(ChildCommand::Expression(operand(rest, 0)?)),
+        codes::EMPTY_CONTAINER => Ok(ChildCommand::Empty),
+        codes::SPREAD_CHILD => Ok(ChildCommand::Spread(operand(rest, 0)?)),
+        codes::ELEMENT => Ok(ChildCommand::Element(operand(rest, 0)?)),
+        codes::FRAGMENT => Ok(ChildCommand::Fragment(operand(rest, 0)?)),
+        codes::END => Ok(ChildCommand::End),
+        _ => Err(CommandError::Wrong),
     }
 }

@@ -2,39 +2,27 @@
 ghost use Rattle.std.specs.Prelude.{◌≡◌};
 ghost use Rattle.commands.specs.Sizes.{command_size};
 
-// ---- what operands take
-
-pub const KIND: usize = 1;
-
-pub const FLAGS: usize = 2;
-
-pub const EXPRESSION: usize = 2;
-
-pub const SPAN: usize = 4;
-
-pub const EXPRESSION_AND_SPAN: usize = EXPRESSION + SPAN;
-
-pub const SPANS: usize = SPAN + SPAN;
-
-pub const PLACE: usize = 8;
+use crate::root::Place;
+use tape::numbers::Operand;
+use text::spans::Span;
 
 // ---- what commands take, by what they carry
 
 pub const BARE: usize = 1;
 
-pub const WITH_KIND: usize = BARE + KIND;
+pub const WITH_KIND: usize = BARE + u8::SIZE;
 
-pub const WITH_FLAGS: usize = BARE + FLAGS;
+pub const WITH_FLAGS: usize = BARE + u16::SIZE;
 
-pub const WITH_EXPRESSION: usize = BARE + EXPRESSION;
+pub const WITH_EXPRESSION: usize = BARE + u16::SIZE;
 
-pub const WITH_SPAN: usize = BARE + SPAN;
+pub const WITH_SPAN: usize = BARE + Span::SIZE;
 
-pub const WITH_EXPRESSION_AND_SPAN: usize = BARE + EXPRESSION_AND_SPAN;
+pub const WITH_EXPRESSION_AND_SPAN: usize = WITH_EXPRESSION + Span::SIZE;
 
-pub const WITH_SPANS: usize = BARE + SPANS;
+pub const WITH_SPANS: usize = WITH_SPAN + Span::SIZE;
 
-pub const WITH_PLACE: usize = BARE + PLACE;
+pub const WITH_PLACE: usize = BARE + Place::SIZE;
 
 // ---- what the commands of the root tape take, by code
 
@@ -53,6 +41,7 @@ const ROW_5: u64 = 0x0000_0000_0000_0035;
 
 // How many bytes the command of the root tape with this code takes; 0 where there is none. Shifts find the digit in a row: a match of all codes is called and
 // jumps, and a table that is a constant would be made anew at each call.
+// kept: 0 is read off a row like any size; an Option would be made of it by a test, and unmade by the test that both callers make
 pub fn command_size(code: u8) -> usize
     ensures { result ≡ command_size code }
 {

@@ -1,3 +1,4 @@
+pub mod Places
 mod Signs
 mod Values
 pub mod Tapes

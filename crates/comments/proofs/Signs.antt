@@ -5,6 +5,7 @@
 --                            Reach (reject, unknown) or to the answer (none, cut, no_word, known)
 --     seek_after             a pragma is found behind the place where the search begins, and within the comment
 -- Assumes nothing.
+use Rattle.std.specs.Prelude.{None, Option, Some}
 use mathlib.Core.Path.{◌≡◌, refl, sym, ap, ◌∙◌}
 use mathlib.Core.Bool.{Bool, true, false, cond, and-false}
 use mathlib.Core.List.{List, [], ◌∷◌}
@@ -13,8 +14,6 @@ use native.Mathlib.Omega.{arith}
 use lib.ListN.{length, take, drop, get_or, length-take, length-drop}
 use lib.Dec.{ltb}
 use borrow.Author.Tests.{ltb-true, ltb-false}
-use Rattle.text.specs.declared.bytes.Found.{Found}
-use Rattle.text.specs.declared.bytes.Found.TheVariants.{At, Nothing}
 use Rattle.definitions.specs.Comments.{is_at, is_blank, place_from, Keyword, jsx, frag, import_source, runtime, unknown, keyword_of, Search, pragma}
 use Rattle.definitions.specs.Comments.{nothing, counts, on_keyword, on_word, on_sign, seek}
 use Rattle.text.specs.Bytes.{ascii, same}
@@ -24,53 +23,35 @@ use Rattle.text.proofs.Comparing.{same_lengths, same_eq}
 use Rattle.text.proofs.Searching.{find_at}
 use Rattle.comments.specs.declared.PragmaType.{PragmaType}
 use Rattle.comments.specs.declared.PragmaType.TheVariants.{Jsx, JsxRuntime, JsxImportSource, JsxFrag}
-use Rattle.comments.specs.declared.Four.TheVariants.{Bytes, Cut}
-use Rattle.comments.specs.declared.Next.TheVariants.{Byte, End}
-use Rattle.comments.specs.Searches.{stands, begins, four_at, byte_at, known_for}
+use Rattle.comments.specs.Searches.{stands, begins, four_at, known_for}
 
 -- ---- places
-pub place_range : (p : ℕ → Bool) (c : List ℕ) (i j : ℕ) → place_from p c i ≡ At j → (i ≤ j) × (j < length c)
+pub place_range : (p : ℕ → Bool) (c : List ℕ) (i j : ℕ) → place_from p c i ≡ Some j → (i ≤ j) × (j < length c)
 place_range p c i j e =
     let r = find_at p (drop i c) i j e in
     (r.0, omega (arith, r.0, r.1.inside, length-drop i c))
 
--- ---- bytes ahead: whether they are there, and which
+-- ---- the four bytes ahead: whether they are there, and which
 module _ (c : List ℕ) (i : ℕ) where
-  pub byte_here : (b : ℕ) → byte_at c i ≡ Byte b → (i < length c) × (get_or c i 0 ≡ b)
-  unfolding byte_at
-  byte_here b e = go (ltb i (length c)) refl e
-    where
-      go : (t : Bool) → ltb i (length c) ≡ t → cond t (Byte (get_or c i 0)) End ≡ Byte b → (i < length c) × (get_or c i 0 ≡ b)
-      go true h q = (ltb-true i (length c) h, cc)
-      go false h q = let z : ◌≡◌ {A = ℕ} 0 1 = cc in absurd (omega arith)
-
-  pub byte_none : byte_at c i ≡ End → length c ≤ i
-  unfolding byte_at
-  byte_none e = go (ltb i (length c)) refl e
-    where
-      go : (t : Bool) → ltb i (length c) ≡ t → cond t (Byte (get_or c i 0)) End ≡ End → length c ≤ i
-      go true h q = let z : ◌≡◌ {A = ℕ} 0 1 = cc in absurd (omega arith)
-      go false h q = ltb-false i (length c) h
-
-  pub four_here : (n : ℕ) → four_at c i ≡ Bytes n → (4 ≤ length c - i) × (u32_at c i ≡ n)
+  pub four_here : (n : ℕ) → four_at c i ≡ Some n → (4 ≤ length c - i) × (u32_at c i ≡ n)
   unfolding four_at
   four_here n e = go (ltb (length c - i) 4) refl e
     where
-      go : (t : Bool) → ltb (length c - i) 4 ≡ t → cond t Cut (Bytes (u32_at c i)) ≡ Bytes n → (4 ≤ length c - i) × (u32_at c i ≡ n)
+      go : (t : Bool) → ltb (length c - i) 4 ≡ t → cond t None (Some (u32_at c i)) ≡ Some n → (4 ≤ length c - i) × (u32_at c i ≡ n)
       go true h q = let z : ◌≡◌ {A = ℕ} 0 1 = cc in absurd (omega arith)
       go false h q = (ltb-false (length c - i) 4 h, cc)
 
-  pub four_none : four_at c i ≡ Cut → length c - i < 4
+  pub four_none : four_at c i ≡ None → length c - i < 4
   unfolding four_at
   four_none e = go (ltb (length c - i) 4) refl e
     where
-      go : (t : Bool) → ltb (length c - i) 4 ≡ t → cond t Cut (Bytes (u32_at c i)) ≡ Cut → length c - i < 4
+      go : (t : Bool) → ltb (length c - i) 4 ≡ t → cond t None (Some (u32_at c i)) ≡ None → length c - i < 4
       go true h q = ltb-true (length c - i) 4 h
       go false h q = let z : ◌≡◌ {A = ℕ} 0 1 = cc in absurd (omega arith)
 
   no_room : length c - i < 4 → begins c i ≡ false
   unfolding begins
-  no_room h = same_lengths _ _ (λ e. omega (arith, length-take 4 (drop i c), length-drop i c))
+  no_room h = same_lengths (take 4 (drop i c)) (ascii "@jsx") (λ (e : length (take 4 (drop i c)) ≡ 4). omega (arith, length-take 4 (drop i c), length-drop i c))
 
   module _ (room : 4 ≤ length c - i) where
     four_bytes : take 4 (drop i c) ≡ get_or c i 0 ∷ get_or c (i + 1) 0 ∷ get_or c (i + 2) 0 ∷ get_or c (i + 3) 0 ∷ []
@@ -80,7 +61,7 @@ module _ (c : List ℕ) (i : ℕ) where
         rw (drop_one c i (omega arith), drop_one c (i + 1) (omega arith), two, drop_one c (i + 2) (omega arith), three, drop_one c (i + 3) (omega arith))
 
     pub jsx_here : ((k : ℕ) → get_or c k 0 < 256) → u32_at c i ≡ 0x78736a40 → begins c i ≡ true
-    unfolding begins same
+    unfolding begins
     jsx_here f e =
         let x : get_or c (i + 3) 0 ≡ 0x78 = omega (arith, f i, f (i + 1), f (i + 2)) in
         let s : get_or c (i + 2) 0 ≡ 0x73 = omega (arith, f i, f (i + 1)) in
@@ -122,7 +103,7 @@ pub record Reach (c : List ℕ) (start i : ℕ) : Type 0 where
 pub begin : (c : List ℕ) (start : ℕ) → Reach c start start
 begin c start = record { turns = length c; enough = omega arith; same = refl }
 
-pub seek_none : (n : ℕ) (c : List ℕ) (i : ℕ) → place_from is_at c i ≡ Nothing → seek n c i ≡ nothing
+pub seek_none : (n : ℕ) (c : List ℕ) (i : ℕ) → place_from is_at c i ≡ None → seek n c i ≡ nothing
 unfolding seek on_sign
 seek_none zero c i e = refl
 seek_none (suc n) c i e = rw e
@@ -133,13 +114,13 @@ unfolding seek on_sign
 seek_short zero c i h = refl
 seek_short (suc n) c i h = go (place_from is_at c i) refl (seek_short n c)
   where
-    go : (f : Found) → place_from is_at c i ≡ f → ((j : ℕ) → length c - j < 4 → seek n c j ≡ nothing) → on_sign c i f (λ (j : ℕ). seek n c j) ≡ nothing
-    go Nothing e ih = refl
-    go (At sign) e ih =
+    go : (f : Option ℕ) → place_from is_at c i ≡ f → ((j : ℕ) → length c - j < 4 → seek n c j ≡ nothing) → on_sign c i f (λ (j : ℕ). seek n c j) ≡ nothing
+    go None e ih = refl
+    go (Some sign) e ih =
         let later : i ≤ sign = (place_range is_at c i sign e).0 in
         rw (other_word c i sign (no_room c sign (omega arith))) (ih (sign + 1) (omega arith))
 
-pub none : (c : List ℕ) (start i : ℕ) → Reach c start i → place_from is_at c i ≡ Nothing → seek (length c) c start ≡ nothing
+pub none : (c : List ℕ) (start i : ℕ) → Reach c start i → place_from is_at c i ≡ None → seek (length c) c start ≡ nothing
 none c start i r e = r.same ∙ seek_none r.turns c i e
 
 on_known : (k : PragmaType) (next : ℕ) (go : ℕ → Search) → on_keyword (known_for k) next go ≡ pragma (known_for k) next
@@ -149,14 +130,14 @@ on_known JsxRuntime next go = refl
 on_known JsxImportSource next go = refl
 on_known JsxFrag next go = refl
 
-module _ (c : List ℕ) (start i sign : ℕ) (r : Reach c start i) (hit : place_from is_at c i ≡ At sign) where
+module _ (c : List ℕ) (start i sign : ℕ) (r : Reach c start i) (hit : place_from is_at c i ≡ Some sign) where
   after_sign : (m : ℕ) × (length c ≤ m + (sign + 1))
-      × (seek (length c) c start ≡ on_sign c i (At sign) (λ (j : ℕ). seek m c j))
+      × (seek (length c) c start ≡ on_sign c i (Some sign) (λ (j : ℕ). seek m c j))
   unfolding seek
   after_sign = go r.turns r.enough r.same
     where
       go : (n : ℕ) → length c ≤ n + i → seek (length c) c start ≡ seek n c i → (m : ℕ) × (length c ≤ m + (sign + 1))
-          × (seek (length c) c start ≡ on_sign c i (At sign) (λ (j : ℕ). seek m c j))
+          × (seek (length c) c start ≡ on_sign c i (Some sign) (λ (j : ℕ). seek m c j))
       go zero h e = absurd (omega (arith, place_range is_at c i sign hit))
       go (suc m) h e = (m, omega (arith, place_range is_at c i sign hit), e ∙ rw hit)
 
@@ -164,18 +145,18 @@ module _ (c : List ℕ) (start i sign : ℕ) (r : Reach c start i) (hit : place_
   unfolding on_sign
   reject e = record { turns = after_sign.0; enough = after_sign.1; same = after_sign.2 ∙ rw e }
 
-  pub cut : four_at c sign ≡ Cut → seek (length c) c start ≡ nothing
+  pub cut : four_at c sign ≡ None → seek (length c) c start ≡ nothing
   cut e =
       let h : length c - sign < 4 = four_none c sign e in
       let past = reject (other_word c i sign (no_room c sign h)) in
       past.same ∙ seek_short past.turns c (sign + 1) (omega arith)
 
   module _ (counts_here : counts c i sign ≡ true) where
-    pub no_word : place_from is_blank c (sign + 4) ≡ Nothing → seek (length c) c start ≡ nothing
+    pub no_word : place_from is_blank c (sign + 4) ≡ None → seek (length c) c start ≡ nothing
     unfolding on_sign on_word
     no_word e = after_sign.2 ∙ rw (counts_here, e)
 
-    module _ (end : ℕ) (w : place_from is_blank c (sign + 4) ≡ At end) where
+    module _ (end : ℕ) (w : place_from is_blank c (sign + 4) ≡ Some end) where
       by_keyword : seek (length c) c start
           ≡ on_keyword (keyword_of (take (end - (sign + 4)) (drop (sign + 4) c))) (end + 1) (λ (j : ℕ). seek after_sign.0 c j)
       unfolding on_sign on_word
@@ -207,22 +188,22 @@ module _ (c : List ℕ) (k : Keyword) (a : ℕ) (go : ℕ → Search) (ih : (j :
   keyword_after runtime next h e = let z : next ≡ a = cc in omega arith
   keyword_after unknown next h e = omega (arith, ih next e)
 
-  word_after : (w : ℕ) (f : Found) → place_from is_blank c w ≡ f → on_word c w f go ≡ pragma k a → Later c w a
+  word_after : (w : ℕ) (f : Option ℕ) → place_from is_blank c w ≡ f → on_word c w f go ≡ pragma k a → Later c w a
   unfolding on_word
-  word_after w (At e) h q =
+  word_after w (Some e) h q =
       let r : (w ≤ e) × (e < length c) = place_range is_blank c w e h in
       omega (arith, keyword_after (keyword_of (take (e - w) (drop w c))) (e + 1) (omega arith) q)
-  word_after w Nothing h q = let z : ◌≡◌ {A = ℕ} 0 1 = cc in omega arith
+  word_after w None h q = let z : ◌≡◌ {A = ℕ} 0 1 = cc in omega arith
 
   tried_after : (sign : ℕ) (b : Bool) → cond b (on_word c (sign + 4) (place_from is_blank c (sign + 4)) go) (go (sign + 1)) ≡ pragma k a
       → Later c sign a
   tried_after sign true q = omega (arith, word_after (sign + 4) (place_from is_blank c (sign + 4)) refl q)
   tried_after sign false q = omega (arith, ih (sign + 1) q)
 
-  sign_after : (i : ℕ) (f : Found) → place_from is_at c i ≡ f → on_sign c i f go ≡ pragma k a → Later c i a
+  sign_after : (i : ℕ) (f : Option ℕ) → place_from is_at c i ≡ f → on_sign c i f go ≡ pragma k a → Later c i a
   unfolding on_sign
-  sign_after i (At sign) h q = omega (arith, place_range is_at c i sign h, tried_after sign (counts c i sign) q)
-  sign_after i Nothing h q = let z : ◌≡◌ {A = ℕ} 0 1 = cc in omega arith
+  sign_after i (Some sign) h q = omega (arith, place_range is_at c i sign h, tried_after sign (counts c i sign) q)
+  sign_after i None h q = let z : ◌≡◌ {A = ℕ} 0 1 = cc in omega arith
 
 pub seek_after : (n : ℕ) (c : List ℕ) (i : ℕ) (k : Keyword) (a : ℕ) → seek n c i ≡ pragma k a → Later c i a
 unfolding seek

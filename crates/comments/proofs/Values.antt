@@ -1,27 +1,28 @@
 -- The pragmas of one comment, one after another.
+--     value_taken, value_within
+--                            what a value is, and that it lies in what is left
 --     blank_rest, valued     the pragma of a keyword, by where its value begins
 --     Comes                  the options after the comment are those after what is left of it, from the options so far; each event of the loop
---                            is a law from Comes to Comes (onward) or to the answer (ended, past)
+--                            is a law from Comes to Comes (onward) or to the answer (no_more)
 --     lies                   where a value lies in the comment
 -- Assumes nothing.
-use mathlib.Core.Path.{◌≡◌, refl, sym, ap, ◌∙◌}
+use Rattle.std.specs.Prelude.{None, Option, Some}
+use Rattle.std.specs.Option.{unwrap_or}
+use mathlib.Core.Path.{◌≡◌, refl, ap, ◌∙◌}
 use mathlib.Core.Bool.{not}
 use mathlib.Core.List.{List, [], ◌∷◌}
 use Prim.Native.Nat.{ℕ, zero, suc, ◌+◌, ◌-◌, ◌≤◌, ◌<◌}
 use native.Mathlib.Omega.{arith}
-use lib.ListN.{length, drop, length-drop, length-take}
+use lib.ListN.{length, take, drop, length-drop, length-take}
 use lib.Seq.{drop-length}
-use Rattle.text.specs.declared.bytes.Found.{Found}
-use Rattle.text.specs.declared.bytes.Found.TheVariants.{At, Nothing}
 use Rattle.text.specs.declared.spans.Span.{Span}
 use Rattle.text.specs.Bytes.{find_from}
 use Rattle.text.specs.Spans.{part_of}
 use Rattle.definitions.specs.declared.options.Options.{Options}
-use Rattle.definitions.specs.Comments.{is_at, is_blank, is_white, place_from, or_else, Keyword, Search, pragma, nothing, seek, value_start, value_of, applied}
+use Rattle.definitions.specs.Comments.{is_blank, is_white, place_from, or_else, Keyword, Search, pragma, nothing, seek, value_start, value_of, applied}
 use Rattle.definitions.specs.Comments.{on_value, on_search, comment_from}
-use Rattle.text.proofs.Searching.{find_end}
 use Rattle.comments.specs.Searches.{PragmaValue, some, none, pragma_by, value_from, pragma_of, pragma_from}
-use Rattle.comments.proofs.Signs.{place_range, seek_none, Later, seek_after}
+use Rattle.comments.proofs.Signs.{place_range, Later, seek_after}
 
 -- ---- where the value lies
 value_range : (c : List ℕ) (a : ℕ) → a ≤ length c → (a ≤ value_start c a) × (value_start c a ≤ length c)
@@ -29,20 +30,36 @@ unfolding or_else
 value_range c a h =
     go (place_from (λ b. not (is_blank b)) c a) refl
   where
-    go : (f : Found) → place_from (λ b. not (is_blank b)) c a ≡ f → (a ≤ or_else (length c) f) × (or_else (length c) f ≤ length c)
-    go (At i) e = omega (arith, place_range (λ b. not (is_blank b)) c a i e)
-    go Nothing e = omega arith
+    go : (f : Option ℕ) → place_from (λ b. not (is_blank b)) c a ≡ f → (a ≤ or_else (length c) f) × (or_else (length c) f ≤ length c)
+    go (Some i) e = omega (arith, place_range (λ b. not (is_blank b)) c a i e)
+    go None e = omega arith
+
+-- `value_of`, by the library's `unwrap_or`
+unwrapped : (n : ℕ) (o : Option ℕ) → unwrap_or o n ≡ or_else n o
+unfolding or_else
+unwrapped n (Some i) = refl
+unwrapped n None = refl
+
+pub value_taken : (l : List ℕ) → take (unwrap_or (place_from is_white l 0) (length l)) l ≡ value_of l
+value_taken l = ap (λ (n : ℕ). take n l) (unwrapped (length l) (place_from is_white l 0))
+
+pub value_within : (l : List ℕ) → unwrap_or (place_from is_white l 0) (length l) ≤ length l
+value_within l = go (place_from is_white l 0) refl
+  where
+    go : (o : Option ℕ) → place_from is_white l 0 ≡ o → unwrap_or o (length l) ≤ length l
+    go (Some i) e = omega (arith, place_range is_white l 0 i e)
+    go None e = omega arith
 
 pub value_length : (l : List ℕ) → length (value_of l) ≤ length l
 value_length l = omega (arith, length-take (or_else (length l) (find_from is_white 0 l)) l)
 
 -- ---- the pragma of a keyword that was found
 module _ (c : List ℕ) (i : ℕ) (k : Keyword) (a : ℕ) (hit : seek (length c) c i ≡ pragma k a) where
-  pub blank_rest : place_from (λ b. not (is_blank b)) c a ≡ Nothing → pragma_from c i ≡ none
+  pub blank_rest : place_from (λ b. not (is_blank b)) c a ≡ None → pragma_from c i ≡ none
   unfolding pragma_of pragma_by or_else find_from
   blank_rest e = rw (hit, e, drop-length c)
 
-  pub valued : (start : ℕ) → place_from (λ b. not (is_blank b)) c a ≡ At start
+  pub valued : (start : ℕ) → place_from (λ b. not (is_blank b)) c a ≡ Some start
       → pragma_from c i ≡ pragma_by k (value_of (drop start c)) (start + length (value_of (drop start c)))
   unfolding pragma_of or_else
   valued start e = rw (hit, e)
@@ -66,21 +83,21 @@ module _ (o : Options) (base : ℕ) (c : List ℕ) (go : Options → ℕ → Opt
   by_search nothing = refl
   by_search (pragma k a) = by_value k (value_start c a) (value_from c a)
 
--- ---- whether the part that is handed back is empty
+-- ---- whether a value is empty
 module _ (k : Keyword) (end : ℕ) where
-  by_none : (v : List ℕ) → length v ≡ 0 → pragma_by k v end ≡ none
+  pub by_none : (v : List ℕ) → length v ≡ 0 → pragma_by k v end ≡ none
   unfolding pragma_by
   by_none [] z = refl
   by_none (b ∷ v) z = absurd (omega arith)
 
-  by_some : (v : List ℕ) → (length v ≡ 0 → ⊥) → pragma_by k v end ≡ some k v end
+  pub by_some : (v : List ℕ) → (length v ≡ 0 → ⊥) → pragma_by k v end ≡ some k v end
   unfolding pragma_by
   by_some [] f = absurd (f refl)
   by_some (b ∷ v) f = refl
 
 -- where a value lies, and that it lies behind where the search begins
 module _ (c : List ℕ) (i : ℕ) (k : Keyword) (v : List ℕ) (end : ℕ) where
-  abbrev Lies : Type 0
+  abbrev pub Lies : Type 0
   Lies = (i + length v < end) × (end ≤ length c)
 
   search_lies : (s : Search) → seek (length c) c i ≡ s → pragma_of c s ≡ some k v end → Lies
@@ -95,6 +112,9 @@ module _ (c : List ℕ) (i : ℕ) (k : Keyword) (v : List ℕ) (end : ℕ) where
           let n : length (value_from c a) ≡ length v = ap length e ∙ cc in
           let z : value_start c a + length v ≡ end = cc in
           omega (arith, value_range c a l.1, value_length (drop (value_start c a) c), length-drop (value_start c a) c)
+
+  pub lies : pragma_from c i ≡ some k v end → Lies
+  lies = search_lies (seek (length c) c i) refl
 
 -- ---- the options o before the comment c, p at place i of it, with enough turns left
 pub record Comes (c : List ℕ) (base : ℕ) (o p : Options) (i : ℕ) : Type 0 where
@@ -113,7 +133,7 @@ module _ (c : List ℕ) (base : ℕ) (o p : Options) (i : ℕ) (r : Comes c base
       let go : Options → ℕ → Options = λ q j. comment_from n q base c j in
       by_search p base c go (seek (length c) c i) ∙ ap (λ (y : PragmaValue). on_pragma p base y go) e
 
-  no_more : pragma_from c i ≡ none → comment_from (length c) o base c 0 ≡ p
+  pub no_more : pragma_from c i ≡ none → comment_from (length c) o base c 0 ≡ p
   unfolding comment_from on_pragma
   no_more e = r.same ∙ go r.turns
     where
@@ -121,29 +141,18 @@ module _ (c : List ℕ) (base : ℕ) (o p : Options) (i : ℕ) (r : Comes c base
       go zero = refl
       go (suc n) = turn none n e
 
-  pub past : length c ≤ i → comment_from (length c) o base c 0 ≡ p
-  unfolding pragma_of
-  past h = no_more (rw (seek_none (length c) c i (find_end is_at c i h)))
+  module _ (k : Keyword) (v : List ℕ) (end : ℕ) (hit : pragma_from c i ≡ some k v end) where
+    pub onward : Comes c base o (applied p k (record { start = base + end - length v; len = length v }) v) (end + 1)
+    unfolding on_pragma
+    onward = go r.turns r.enough r.same
+      where
+        inside : Lies c i k v end
+        inside = lies c i k v end hit
 
-  module _ (k : Keyword) (v : List ℕ) (end : ℕ) (hit : pragma_by k v end ≡ pragma_from c i) where
-    pub ended : length v ≡ 0 → comment_from (length c) o base c 0 ≡ p
-    ended z = no_more (sym hit ∙ by_none k end v z)
-
-    module _ (f : length v ≡ 0 → ⊥) where
-      is_some : pragma_from c i ≡ some k v end
-      is_some = sym hit ∙ by_some k end v f
-
-      pub lies : (i + length v < end) × (end ≤ length c)
-      lies = search_lies c i k v end (seek (length c) c i) refl is_some
-
-      pub onward : Comes c base o (applied p k (record { start = base + end - length v; len = length v }) v) (end + 1)
-      unfolding on_pragma
-      onward = go r.turns r.enough r.same
-        where
-          go : (n : ℕ) → length c ≤ n + i → comment_from (length c) o base c 0 ≡ comment_from n p base c i
-              → Comes c base o (applied p k (record { start = base + end - length v; len = length v }) v) (end + 1)
-          go zero h e = absurd (omega (arith, lies))
-          go (suc m) h e = record { turns = m; enough = omega (arith, lies); same = e ∙ turn (some k v end) m is_some }
+        go : (n : ℕ) → length c ≤ n + i → comment_from (length c) o base c 0 ≡ comment_from n p base c i
+            → Comes c base o (applied p k (record { start = base + end - length v; len = length v }) v) (end + 1)
+        go zero h e = absurd (omega (arith, inside))
+        go (suc m) h e = record { turns = m; enough = omega (arith, inside); same = e ∙ turn (some k v end) m hit }
 
 -- a place in a comment fits a span's field, as a place in the text
 pub comment_fits : (text : List ℕ) (s : Span) → length text ≤ 65535 → s.start ≤ 65535 → s.start + length (part_of text s) ≤ 65535

@@ -8,15 +8,14 @@
 // There may be several in one comment, also in one line.
 #![tactic(auto)]
 
-ghost use Rattle.std.specs.Prelude.{◌≡◌, cond, ◌≤◌, ◌<◌, length, drop};
-ghost use Rattle.definitions.specs.Comments.{leads_in, place_from, keyword_of, seek, value_of, with_runtime, applied, with_comment, with_comments};
-ghost use Rattle.comments.specs.Searches.{is_in, stands, four_at, byte_at, pragma_type, known_for, keyword_for, search_for, pragma_by, pragma_from};
+ghost use Rattle.std.specs.Prelude.{◌≡◌, ℕ, Bool, ◌≤◌, ◌<◌, length, drop, position, IfSome};
+ghost use Rattle.comments.specs.Searches.{stands, four_at, known_for, keyword_for, search_for, pragma_for, pragma_from};
 ghost use Rattle.comments.specs.Tapes.{comments_of};
+ghost use Rattle.definitions.specs.Comments.{is_blank, is_white, leads_in, place_from, keyword_of, seek, value_of, with_runtime, applied, with_comment, with_comments};
 
 use commands::{codes, sizes};
-use definitions::options::{Flags, Optional, Options};
-use tape::numbers::{read_span, read_u32};
-use text::bytes::{Found, same};
+use definitions::options::{Flags, Options};
+use tape::numbers::read_span;
 use text::spans::{Span, part};
 
 // What a pragma sets.
@@ -28,302 +27,194 @@ enum PragmaType {
     JsxFrag,
 }
 
-// The types as numbers, which can be told through a `&mut`.
-const JSX: u8 = 0;
-
-const JSX_RUNTIME: u8 = 1;
-
-const JSX_IMPORT_SOURCE: u8 = 2;
-
-const JSX_FRAG: u8 = 3;
-
-// What follows `@jsx`.
+// A pragma: its type, its value and the place in the comment where the value ends.
 #[derive(Clone, Copy)]
-enum Keyword {
-    Known(PragmaType),
-    Unknown,
+struct Pragma<'a> {
+    kind: PragmaType,
+    value: &'a [u8],
+    end: usize,
 }
 
-// The next keyword that is known: its type and the place behind the byte that ends it.
-#[derive(Clone, Copy)]
-enum Search {
-    Pragma(PragmaType, usize),
-    Nothing,
-}
-
-// Four bytes as a number, the lowest first, where so many are left.
-#[derive(Clone, Copy)]
-enum Four {
-    Bytes(u32),
-    Cut,
-}
-
-// A byte, where one is left.
-#[derive(Clone, Copy)]
-enum Next {
-    Byte(u8),
-    End,
-}
-
-// The bytes that are looked for.
-#[derive(Clone, Copy)]
-enum Class {
-    // an at sign
-    At,
-    // a space or tab
-    Blank,
-    // anything else
-    Ink,
-    // ASCII white space
-    White,
-}
-
-fn is_in(class: Class, b: u8) -> bool
-    ensures { result ≡ is_in class b }
+// A space or tab.
+fn is_blank(b: u8) -> bool
+    ensures { result ≡ is_blank b }
 {
-    match class {
-        Class::At => b == b'@',
-        Class::Blank => (b == b' ') | (b == b'\t'),
-        Class::Ink => !((b == b' ') | (b == b'\t')),
-        Class::White => ((0x09 <= b) & (b <= 0x0d)) | (b == b' '),
-    }
+    matches!(b, b' ' | b'\t')
 }
 
-// The place of the first byte of a class, from `from` on.
-fn place_from(s: &[u8], from: usize, class: Class) -> Found
-    ensures { result ≡ place_from (is_in class) s.now from }
+// ASCII white space.
+fn is_white(b: u8) -> bool
+    ensures { result ≡ is_white b }
 {
-    let mut i = from;
-    while i < s.len() {
-        if is_in(class, s[i]) {
-            return Found::At(i);
-        }
-        i += 1;
-    }
-    Found::Nothing
+    matches!(b, 0x09..=0x0d | b' ')
 }
 
 // What may stand before an at sign that counts.
 fn leads_in(b: u8) -> bool
     ensures { result ≡ leads_in b }
 {
-    (b == b' ') | (b == b'\t') | (b == b'\r') | (b == b'\n') | (b == b'*')
+    matches!(b, b' ' | b'\t' | b'\r' | b'\n' | b'*')
+}
+
+// The first byte that passes.
+fn first_place<F: Fn(u8) -> bool>(s: &[u8], passes: F) -> Option<usize>
+    requires { F.IsAlwaysCallable passes }
+    ensures inside { IfSome result (λ i. i < length s.now) }
+    ensures first { (p : ℕ → Bool) → ((b : ℕ) (r : Bool) → F.post passes b r → r ≡ p b) → result ≡ position p s.now }
+{
+    s.iter().position(|b| passes(*b))
+}
+
+// The place of the first byte that passes, from `from` on.
+fn place_from<F: Fn(u8) -> bool>(s: &[u8], from: usize, passes: F) -> Option<usize>
+    requires { F.IsAlwaysCallable passes }
+    ensures { (p : ℕ → Bool) → ((b : ℕ) (r : Bool) → F.post passes b r → r ≡ p b) → result ≡ place_from p s.now from }
+{
+    let n = first_place(s.get(from..)?, passes)?;
+    Some(from + n)
 }
 
 // Whether an at sign counts where it stands. This keeps code spans out, as `@jsx h` between backticks.
+#[tactic(auto, unfolding(crate::specs::Searches::stands))]
 fn stands_well(comment: &[u8], from: usize, sign: usize) -> bool
     requires { (from ≤ sign) × (sign < length comment.now) }
     ensures { result ≡ stands comment.now from sign }
 {
-    if sign == from {
-        return true;
-    }
-    leads_in(comment[sign - 1])
+    sign == from || leads_in(comment[sign - 1])
 }
 
-// `@jsx` as a number.
-const AT_JSX: u32 = 0x78736a40;
-
 // The four bytes from an at sign on, which are compared at once.
-fn next4(comment: &[u8], sign: usize) -> Four
+#[tactic(auto, unfolding(crate::specs::Searches::four_at))]
+fn next4(comment: &[u8], sign: usize) -> Option<u32>
     requires { sign ≤ length comment.now }
     ensures { result ≡ four_at comment.now sign }
 {
-    if comment.len() - sign < 4 {
-        return Four::Cut;
-    }
-    Four::Bytes(read_u32(comment, sign))
+    let bytes = comment[sign..].first_chunk()?;
+    Some(u32::from_le_bytes(*bytes))
 }
 
-fn byte_at(comment: &[u8], i: usize) -> Next
-    ensures { result ≡ byte_at comment.now i }
-{
-    if i < comment.len() {
-        return Next::Byte(comment[i]);
-    }
-    Next::End
-}
-
-fn keyword_of(word: &[u8]) -> Keyword
+#[tactic(auto, unfolding(crate::specs::Searches::keyword_for, crate::specs::Searches::known_for, definitions::specs::Comments::keyword_of))]
+fn keyword_of(word: &[u8]) -> Option<PragmaType>
     ensures { keyword_for result ≡ keyword_of word.now }
 {
-    if same(word, b"") {
-        return Keyword::Known(PragmaType::Jsx);
+    if word == b"".as_slice() {
+        return Some(PragmaType::Jsx);
     }
-    if same(word, b"Frag") {
-        return Keyword::Known(PragmaType::JsxFrag);
+    if word == b"Frag".as_slice() {
+        return Some(PragmaType::JsxFrag);
     }
-    if same(word, b"ImportSource") {
-        return Keyword::Known(PragmaType::JsxImportSource);
+    if word == b"ImportSource".as_slice() {
+        return Some(PragmaType::JsxImportSource);
     }
-    if same(word, b"Runtime") {
-        return Keyword::Known(PragmaType::JsxRuntime);
+    if word == b"Runtime".as_slice() {
+        return Some(PragmaType::JsxRuntime);
     }
-    Keyword::Unknown
+    None
 }
 
-fn number_of(kind: PragmaType) -> u8
-    ensures { pragma_type result ≡ kind }
-{
-    match kind {
-        PragmaType::Jsx => JSX,
-        PragmaType::JsxRuntime => JSX_RUNTIME,
-        PragmaType::JsxImportSource => JSX_IMPORT_SOURCE,
-        PragmaType::JsxFrag => JSX_FRAG,
-    }
-}
-
-fn type_of(number: u8) -> PragmaType
-    ensures { result ≡ pragma_type number }
-{
-    match number {
-        JSX => PragmaType::Jsx,
-        JSX_RUNTIME => PragmaType::JsxRuntime,
-        JSX_IMPORT_SOURCE => PragmaType::JsxImportSource,
-        _ => PragmaType::JsxFrag,
-    }
-}
-
-// The next known keyword of a comment, of which what is left begins at `start`.
-fn find_keyword(comment: &[u8], start: usize) -> Search
-    requires { start ≤ length comment.now }
+// The next known keyword of a comment, of which what is left begins at `start`: its type and the place behind the byte that ends it.
+fn find_keyword(comment: &[u8], start: usize) -> Option<(PragmaType, usize)>
     ensures { search_for result ≡ seek (length comment.now) comment.now start }
 {
     let mut from = start;
-    let kind = 'signs: loop {
-        let Found::At(sign) = place_from(comment, from, Class::At) else {
-            return Search::Nothing;
-        };
+    'signs: loop {
+        let sign = place_from(comment, from, |b| b == b'@')?;
         let counts = stands_well(comment, from, sign);
         // what is left begins behind the at sign, whether it counts or not
         from = sign + 1;
         if !counts {
             continue 'signs;
         }
-        let Four::Bytes(bytes) = next4(comment, sign) else {
-            return Search::Nothing;
-        };
-        if bytes != AT_JSX {
+        let bytes = next4(comment, sign)?;
+        if bytes != u32::from_le_bytes(*b"@jsx") {
             continue 'signs;
         }
         let first = sign + 4;
-        let mut end = first;
-        let word = loop {
-            let Next::Byte(b) = byte_at(comment, end) else {
-                return Search::Nothing;
-            };
-            if is_in(Class::Blank, b) {
-                break &comment[first..end];
-            }
-            end += 1;
-        };
+        let end = place_from(comment, first, is_blank)?;
         from = end + 1;
-        let Keyword::Known(kind) = keyword_of(word) else {
-            continue 'signs;
-        };
-        break 'signs kind;
-    };
-    Search::Pragma(kind, from)
+        if let Some(kind) = keyword_of(&comment[first..end]) {
+            return Some((kind, from));
+        }
+    }
 }
 
 // The part of what is left up to white space.
 fn value_of(rest: &[u8]) -> &[u8]
     ensures { result.now ≡ value_of rest.now }
 {
-    let Found::At(n) = place_from(rest, 0, Class::White) else {
-        return rest;
-    };
-    &rest[0..n]
+    let end = place_from(rest, 0, is_white).unwrap_or(rest.len());
+    &rest[..end]
 }
 
-// The next pragma of a comment, of which what is left begins at `*at`: its value, a part of the comment, and behind `kind` and `at` its type and the
-// place where the value ends. An empty part: there is none.
-fn find_jsx_pragma<'a>(comment: &'a [u8], at: &mut usize, kind: &mut u8) -> &'a [u8]
-    requires { at.old ≤ length comment.now }
-    ensures { pragma_by (known_for (pragma_type kind.new)) result.now at.new ≡ pragma_from comment.now at.old }
+// The next pragma of a comment, of which what is left begins at `at`. An empty value ends the comment.
+fn find_jsx_pragma<'a>(comment: &'a [u8], at: usize) -> Option<Pragma<'a>>
+    ensures { pragma_for result ≡ pragma_from comment.now at }
 {
-    let none = &comment[0..0];
-    let Search::Pragma(found, from) = find_keyword(comment, *at) else {
-        return none;
-    };
-    let Found::At(start) = place_from(comment, from, Class::Ink) else {
-        return none;
-    };
+    let (kind, from) = find_keyword(comment, at)?;
+    let start = place_from(comment, from, |b| !is_blank(b))?;
     let value = value_of(&comment[start..]);
-    *kind = number_of(found);
-    *at = start + value.len();
-    value
-}
-
-// A new value where it is to be set, else the old one.
-fn set_if(test: bool, new: Optional, old: Optional) -> Optional
-    ensures { result ≡ cond test new old }
-{
-    if test {
-        return new;
+    if value.len() == 0 {
+        return None;
     }
-    old
+    Some(Pragma {
+        kind,
+        value,
+        end: start + value.len(),
+    })
 }
 
 fn with_runtime(flags: Flags, value: &[u8]) -> Flags
     ensures { result ≡ with_runtime flags value.now }
 {
-    let mut f = flags;
-    if same(value, b"classic") {
-        f.classic = true;
-        return f;
+    if value == b"classic".as_slice() {
+        return Flags {
+            classic: true,
+            ..flags
+        };
     }
-    if same(value, b"automatic") {
-        f.classic = false;
+    if value == b"automatic".as_slice() {
+        return Flags {
+            classic: false,
+            ..flags
+        };
     }
-    f
+    flags
 }
 
 // What one pragma does to the options; `span` is where its value stands in the text.
+#[tactic(auto, unfolding(crate::specs::Searches::known_for, definitions::specs::Comments::applied))]
 fn apply(options: Options, kind: PragmaType, span: Span, value: &[u8]) -> Options
     ensures { result ≡ applied options (known_for kind) span value.now }
 {
-    let flags = options.flags;
-    let pragma = options.pragma;
-    let pragma_frag = options.pragma_frag;
-    let import_source = options.import_source;
-    let ts_pragma = options.ts_pragma;
-    let ts_pragma_frag = options.ts_pragma_frag;
-    let set = Optional::Present(span);
+    let set = Some(span);
     // the JSX pair is left alone where JSX isn't transformed
-    let pair = flags.jsx_plugin | flags.development;
+    let pair = options.flags.jsx_plugin | options.flags.development;
     match kind {
-        PragmaType::Jsx => Options {
-            flags: flags,
-            pragma: set_if(pair, set, pragma),
-            pragma_frag: pragma_frag,
-            import_source: import_source,
+        PragmaType::Jsx if pair => Options {
+            pragma: set,
             ts_pragma: set,
-            ts_pragma_frag: ts_pragma_frag,
+            ..options
+        },
+        PragmaType::Jsx => Options {
+            ts_pragma: set,
+            ..options
+        },
+        PragmaType::JsxFrag if pair => Options {
+            pragma_frag: set,
+            ts_pragma_frag: set,
+            ..options
         },
         PragmaType::JsxFrag => Options {
-            flags: flags,
-            pragma: pragma,
-            pragma_frag: set_if(pair, set, pragma_frag),
-            import_source: import_source,
-            ts_pragma: ts_pragma,
             ts_pragma_frag: set,
+            ..options
         },
         PragmaType::JsxImportSource => Options {
-            flags: flags,
-            pragma: pragma,
-            pragma_frag: pragma_frag,
             import_source: set,
-            ts_pragma: ts_pragma,
-            ts_pragma_frag: ts_pragma_frag,
+            ..options
         },
         PragmaType::JsxRuntime => Options {
-            flags: with_runtime(flags, value),
-            pragma: pragma,
-            pragma_frag: pragma_frag,
-            import_source: import_source,
-            ts_pragma: ts_pragma,
-            ts_pragma_frag: ts_pragma_frag,
+            flags: with_runtime(options.flags, value),
+            ..options
         },
     }
 }
@@ -334,39 +225,34 @@ fn update_options_with_comment(text: &[u8], options: Options, comment: Span) -> 
     ensures { result ≡ with_comment text.now options comment }
 {
     let content = part(text, comment);
-    let base = comment.start as usize;
     let mut held = options;
     let mut at = 0;
-    let mut kind = JSX;
-    loop {
-        let value = find_jsx_pragma(content, &mut at, &mut kind);
-        if value.len() == 0 {
-            return held;
-        }
+    while let Some(pragma) = find_jsx_pragma(content, at) {
+        let len = pragma.value.len();
         let span = Span {
-            start: (base + at - value.len()) as u16,
-            len: value.len() as u16,
+            start: (comment.start as usize + pragma.end - len) as u16,
+            len: len as u16,
         };
-        held = apply(held, type_of(kind), span, value);
-        if at >= content.len() {
-            return held;
-        }
-        at += 1;
+        held = apply(held, pragma.kind, span, pragma.value);
+        // behind the one white byte that ends the value
+        at = pragma.end + 1;
     }
+    held
 }
 
 // The options after the comments of an opening tape, in order. Its other commands behind the flags, which carry a span too, are passed over.
+#[tactic(auto, using(crate::proofs::Tapes::comment_here, crate::proofs::Tapes::comment_elsewhere, crate::proofs::Tapes::comments_short), unfolding(definitions::specs::Comments::with_comments))]
 pub fn update_options_with_comments(text: &[u8], options: Options, tape: &[u8]) -> Options
     requires { length text.now ≤ 65535 }
     ensures { result ≡ with_comments text.now options (comments_of (drop 3 tape.now)) }
 {
+    let Some(commands) = tape.get(sizes::WITH_FLAGS..) else {
+        return options;
+    };
     let mut held = options;
-    let mut i = sizes::WITH_FLAGS;
-    while i + sizes::WITH_SPAN <= tape.len() {
-        let at = i;
-        i += sizes::WITH_SPAN;
-        if tape[at] == codes::COMMENT {
-            held = update_options_with_comment(text, held, read_span(tape, at + sizes::BARE));
+    for command in commands.chunks_exact(sizes::WITH_SPAN) {
+        if command[0] == codes::COMMENT {
+            held = update_options_with_comment(text, held, read_span(command, sizes::BARE));
         }
     }
     held

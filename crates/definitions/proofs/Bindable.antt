@@ -81,8 +81,8 @@ module _ (c : Context) where
 
   closing_fits : {tag : List Output} (n : ℕ) → Fits c tag → can_name (development c) n ≡ true → Fits c (closing c tag n)
   closing_fits n h k =
-      put_fits call.tag with h with put_fits call.callee with imported_fits n 0 k
-      with plain_fits (plain_byte call.call_end (pure_byte c.settings.pure))
+      put_fits call.Tag with h with put_fits call.Callee with imported_fits n 0 k
+      with plain_fits (plain_byte call.CallEnd (pure_byte c.settings.pure))
 
   tag_fits : Fits c (fragment_tag c.settings.mode)
   tag_fits = imported_fits fragment_name 1 refl
@@ -110,17 +110,17 @@ module _ (c : Context) where
   children_fits : {items : List Output} (n form : ℕ) → Fits c items → Fits c (children_property n form items)
   unfolding children_property
   children_fits n form h =
-      pick (eqb n 0) (plain_fits none) (put_fits call.children_begin with h with plain_fits (plain_byte call.children_end form))
+      pick (eqb n 0) (plain_fits none) (put_fits call.ChildrenBegin with h with plain_fits (plain_byte call.ChildrenEnd form))
 
   automatic_fits : {properties items key added tag : List Output} (k : Children)
       → Fits c properties → Fits c items → Fits c key → Fits c added → Fits c tag → Fits c (automatic_call c properties k items key added tag)
   unfolding automatic_call
   automatic_fits k hp hi hk ha ht =
-      plain_fits (plain_byte call.call 1)
-      with put_fits call.object_begin
+      plain_fits (plain_byte call.Call 1)
+      with put_fits call.ObjectBegin
       with hp
       with children_fits (survivors c k) (form_of (survivors c k) (has_spread k)) hi
-      with put_fits call.object_end
+      with put_fits call.ObjectEnd
       with hk
       with plain_fits (plain_static c (survivors c k))
       with ha
@@ -128,20 +128,20 @@ module _ (c : Context) where
 
   object_fits : (os : List Output) → Fits c os → Fits c (object_of os)
   unfolding object_of
-  object_fits [] h = put_fits call.null
-  object_fits (o ∷ os) h = put_fits call.object_begin with h with put_fits call.object_end
+  object_fits [] h = put_fits call.Null
+  object_fits (o ∷ os) h = put_fits call.ObjectBegin with h with put_fits call.ObjectEnd
 
   classic_fits : {argument items tag : List Output} → Fits c argument → Fits c items → Fits c tag → Fits c (classic_call c argument items tag)
   unfolding classic_call
-  classic_fits ha hi ht = plain_fits (plain_byte call.call 0) with ha with hi with closing_fits create_element ht refl
+  classic_fits ha hi ht = plain_fits (plain_byte call.Call 0) with ha with hi with closing_fits create_element ht refl
 
   lone_fits : {object : List Output} (a : Attributes) → Fits c object → Fits c (lone_spread_or c a object)
   unfolding lone_spread_or
   lone_fits no_attributes h = h
   lone_fits (attribute s v a) h = h
   lone_fits (namespaced_attribute s r v a) h = h
-  lone_fits (spread e a) h = pick (is_last a && plugins_off c) (plain_fits (plain_over call.sole_spread e)) h
-  lone_fits (literal e ps a) h = pick (is_last a && plugins_off c && not (has_proto c ps)) (plain_fits (plain_over call.sole_spread e)) h
+  lone_fits (spread e a) h = pick (is_last a && plugins_off c) (plain_fits (plain_over call.SoleSpread e)) h
+  lone_fits (literal e ps a) h = pick (is_last a && plugins_off c && not (has_proto c ps)) (plain_fits (plain_over call.SoleSpread e)) h
 
   -- ---- the tree
 
@@ -175,30 +175,30 @@ module _ (c : Context) where
         (attributes_fit classic a)
         (plain_fits (plain_notice c s v) with plain_fits (plain_attribute c s) with value_fits v with attributes_fit classic a)
     attributes_fit classic (namespaced_attribute s r v a) =
-        put_fits call.string_name with plain_fits (plain_colonized s r) with value_fits v with attributes_fit classic a
-    attributes_fit classic (spread e a) = plain_fits (plain_over call.spread_property e) with attributes_fit classic a
+        put_fits call.StringName with plain_fits (plain_colonized s r) with value_fits v with attributes_fit classic a
+    attributes_fit classic (spread e a) = plain_fits (plain_over call.SpreadProperty e) with attributes_fit classic a
     attributes_fit classic (literal e ps a) = plain_fits (plain_literal c e ps) with attributes_fit classic a
 
     key_fits : {other : List Output} (a : Attributes) → Fits c other → Fits c (lower_key c a other)
     key_fits no_attributes h = h
-    key_fits (attribute s v a) h = key_fits a (pick (is_key c s && has_value v) (put_fits call.key with value_fits v) h)
+    key_fits (attribute s v a) h = key_fits a (pick (is_key c s && has_value v) (put_fits call.Key with value_fits v) h)
     key_fits (namespaced_attribute s r v a) h = key_fits a h
     key_fits (spread e a) h = key_fits a h
     key_fits (literal e ps a) h = key_fits a h
 
     value_fits : (v : Value) → Fits c (lower_value c v)
-    value_fits absent = put_fits call.literal_true
+    value_fits absent = put_fits call.LiteralTrue
     value_fits (string s) = plain_fits (plain_string s)
-    value_fits (expression e) = plain_fits (plain_over call.expression e)
-    value_fits empty = put_fits call.literal_true
+    value_fits (expression e) = plain_fits (plain_over call.Expression e)
+    value_fits empty = put_fits call.LiteralTrue
     value_fits (node_value n) = node_fits n
 
     kids_fit : (k : Children) → Fits c (lower_children c k)
     kids_fit no_children = plain_fits none
     kids_fit (text_child s k) = plain_fits (plain_text (jsx_text c.text s)) with kids_fit k
-    kids_fit (expression_child e k) = plain_fits (plain_over call.expression e) with kids_fit k
+    kids_fit (expression_child e k) = plain_fits (plain_over call.Expression e) with kids_fit k
     kids_fit (empty_child k) = kids_fit k
-    kids_fit (spread_child e k) = plain_fits (plain_over call.spread_item e) with kids_fit k
+    kids_fit (spread_child e k) = plain_fits (plain_over call.SpreadItem e) with kids_fit k
     kids_fit (node_child n k) = node_fits n with kids_fit k
 
 pub root_fits : (text : List ℕ) (s : Settings) (r : Root) → all_bindable s (imports_of (commands_of (lower_root text s r))) ≡ true

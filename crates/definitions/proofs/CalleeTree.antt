@@ -135,9 +135,9 @@ module _ (c : Context) (automatic : is_classic c.settings.mode ≡ false) where
   children_reads {items} k form h = go (eqb (survivors c k) 0) refl
     where
       go : (b : Bool) → eqb (survivors c k) 0 ≡ b
-          → Reads (cond b [] (put call.children_begin ++ items ++ put_byte call.children_end form)) (callees_in_children c.text (development c) k)
+          → Reads (cond b [] (put call.ChildrenBegin ++ items ++ put_byte call.ChildrenEnd form)) (callees_in_children c.text (development c) k)
       go true e = rw (no_survivors c (development c) k (eqb-true (survivors c k) 0 e)) (plain_reads none)
-      go false e = plain_put call.children_begin refl onward h still plain_byte call.children_end form
+      go false e = plain_put call.ChildrenBegin refl onward h still plain_byte call.ChildrenEnd form
 
   automatic_reads : {properties items key added tag : List Output} {ns ms : List ℕ} (k : Children)
       → Reads properties ns → Reads items (callees_in_children c.text (development c) k) → Reads key ms → Reads added [] → Reads tag []
@@ -148,9 +148,9 @@ module _ (c : Context) (automatic : is_classic c.settings.mode ≡ false) where
   automatic_reads k hp hi hk ha ht =
       rw (← survivors_surviving c k)
       (quiet_onward
-      ((plain_byte call.call 1 and plain_put call.object_begin refl onward hp)
+      ((plain_byte call.Call 1 and plain_put call.ObjectBegin refl onward hp)
       joined children_reads k (form_of (survivors c k) (has_spread k)) hi
-      still plain_put call.object_end refl
+      still plain_put call.ObjectEnd refl
       joined hk
       still plain_static c (survivors c k))
       ha
@@ -159,12 +159,12 @@ module _ (c : Context) (automatic : is_classic c.settings.mode ≡ false) where
   object_reads : (os : List Output) (ns : List ℕ) → Reads os ns → Reads (object_of os) ns
   unfolding object_of bare_code commands_of callees_of
   object_reads [] ns h = record { so = λ rest. h.so rest }
-  object_reads (o ∷ os) ns h = plain_put call.object_begin refl onward h still plain_put call.object_end refl
+  object_reads (o ∷ os) ns h = plain_put call.ObjectBegin refl onward h still plain_put call.ObjectEnd refl
 
   classic_reads : {argument items tag : List Output} {ns ms : List ℕ} → Reads argument ns → Reads items ms → Reads tag []
       → Reads (classic_call c argument items tag) (ns ++ ms ++ create_element ∷ [])
   unfolding classic_call
-  classic_reads ha hi ht = (plain_byte call.call 0 onward ha) joined hi joined closing_reads c create_element automatic ht
+  classic_reads ha hi ht = (plain_byte call.Call 0 onward ha) joined hi joined closing_reads c create_element automatic ht
 
   module _ (p : Place) (n : Name) (a : Attributes) (k : Children) where
     abbrev values : Bool → List ℕ
@@ -266,8 +266,8 @@ module _ (c : Context) (automatic : is_classic c.settings.mode ≡ false) where
     attributes_read classic no_attributes = plain_reads none
     attributes_read classic (attribute s v a) = attribute_reads classic s v a (value_reads v) (attributes_read classic a)
     attributes_read classic (namespaced_attribute s r v a) =
-        (plain_put call.string_name refl and plain_colonized s r onward value_reads v) joined attributes_read classic a
-    attributes_read classic (spread e a) = plain_over call.spread_property e onward attributes_read classic a
+        (plain_put call.StringName refl and plain_colonized s r onward value_reads v) joined attributes_read classic a
+    attributes_read classic (spread e a) = plain_over call.SpreadProperty e onward attributes_read classic a
     attributes_read classic (literal e ps a) = plain_literal c e ps onward attributes_read classic a
 
     key_read : {other : List Output} {ns : List ℕ} (a : Attributes) → Reads other ns
@@ -278,24 +278,24 @@ module _ (c : Context) (automatic : is_classic c.settings.mode ≡ false) where
         (rw (value_given v)
         (key_here (is_key c s) (given v) (later_valued_key c.text a) (callees_in_value c.text (development c) v) ns (callees_in_key c.text (development c) false a)
         (no_value c.text (development c) v)))
-        (key_read a (choose_either (is_key c s && has_value v) (plain_put call.key refl onward value_reads v) h))
+        (key_read a (choose_either (is_key c s && has_value v) (plain_put call.Key refl onward value_reads v) h))
     key_read (namespaced_attribute s r v a) h = key_read a h
     key_read (spread e a) h = key_read a h
     key_read (literal e ps a) h = key_read a h
 
     value_reads : (v : Value) → Reads (lower_value c v) (callees_in_value c.text (development c) v)
-    value_reads absent = plain_reads (plain_put call.literal_true refl)
+    value_reads absent = plain_reads (plain_put call.LiteralTrue refl)
     value_reads (string s) = plain_reads (plain_string s)
-    value_reads (expression e) = plain_reads (plain_over call.expression e)
-    value_reads empty = plain_reads (plain_put call.literal_true refl)
+    value_reads (expression e) = plain_reads (plain_over call.Expression e)
+    value_reads empty = plain_reads (plain_put call.LiteralTrue refl)
     value_reads (node_value n) = node_reads n
 
     kids_read : (k : Children) → Reads (lower_children c k) (callees_in_children c.text (development c) k)
     kids_read no_children = plain_reads none
     kids_read (text_child s k) = plain_text (jsx_text c.text s) onward kids_read k
-    kids_read (expression_child e k) = plain_over call.expression e onward kids_read k
+    kids_read (expression_child e k) = plain_over call.Expression e onward kids_read k
     kids_read (empty_child k) = kids_read k
-    kids_read (spread_child e k) = plain_over call.spread_item e onward kids_read k
+    kids_read (spread_child e k) = plain_over call.SpreadItem e onward kids_read k
     kids_read (node_child n k) = node_reads n joined kids_read k
 
 -- ---- roots

@@ -5,6 +5,7 @@
 --     pragma_behind, value_begins, value_ends     where a pragma's value stands in its comment
 --     Borne, comments_borne                 comments keep the options' spans borne out
 -- Assumes nothing.
+use Rattle.std.specs.Prelude.{None, Option, Some}
 use mathlib.Core.Path.{◌≡◌, refl, sym, ap, ◌∙◌}
 use mathlib.Core.Bool.{Bool, true, false, cond, not, ◌&&◌, ◌||◌}
 use mathlib.Core.List.{List, [], ◌∷◌}
@@ -14,8 +15,6 @@ use lib.ListN.{length, take, drop, get_or, length-take, length-drop}
 use lib.Seq.{get_or-take, get_or-drop, take-length, length-take-le, drop-cons}
 use lib.Dec.{eqb, leb, ltb}
 use borrow.Author.Tests.{eqb-true, eqb-false, ltb-false, le-ltb, leb-true, lt-leb, not-false}
-use Rattle.text.specs.declared.bytes.Found.{Found}
-use Rattle.text.specs.declared.bytes.Found.TheVariants as found
 use Rattle.text.specs.declared.spans.Span.{Span}
 use Rattle.text.specs.declared.spans.Bounds.TheVariants as bounds
 use Rattle.text.specs.Bytes.{find_from}
@@ -24,8 +23,6 @@ use Rattle.text.specs.Spans.{part_of, cuts_at, bounds_of, is_boundary}
 use Rattle.text.proofs.Searching.{Hit, find_at, find_found}
 use Rattle.text.proofs.Rows.{by_row}
 use Rattle.text.proofs.Boundaries.{cuts_boundary, boundary_next}
-use Rattle.definitions.specs.declared.options.Optional.{Optional}
-use Rattle.definitions.specs.declared.options.Optional.TheVariants.{Present}
 use Rattle.definitions.specs.declared.options.Options.{Options}
 use Rattle.definitions.specs.Comments.{is_blank, is_white, is_at, place_from, or_else, Keyword, jsx, frag, import_source, runtime, unknown, keyword_of}
 use Rattle.definitions.specs.Comments.{Search, pragma, nothing, counts, on_keyword, on_word, on_sign, seek, value_start, value_of, sets_pair, applied}
@@ -87,7 +84,7 @@ ascii_uncut text p h = rw (lt-leb 0x80 (get_or text p 0) h) (go (ltb p (length t
     go false = refl
 
 -- nor behind it, in a well-formed text
-pub after_ascii : (text : List ℕ) (p : ℕ) → first_ill text ≡ found.Nothing → p < length text → get_or text p 0 < 0x80 → cuts_at text (p + 1) ≡ false
+pub after_ascii : (text : List ℕ) (p : ℕ) → first_ill text ≡ None → p < length text → get_or text p 0 < 0x80 → cuts_at text (p + 1) ≡ false
 after_ascii text p good h k = cuts_boundary text (p + 1) good (omega arith) ∙ rw (rw one at next)
   where
     here : is_boundary text p ≡ true
@@ -108,7 +105,7 @@ module _ (p : ℕ → Bool) (c : List ℕ) (i j : ℕ) where
     pub passes : p (get_or c j 0) ≡ true
     pub before : (k : ℕ) → i ≤ k → k < j → p (get_or c k 0) ≡ false
 
-  pub place_at : place_from p c i ≡ found.At j → PlaceAt
+  pub place_at : place_from p c i ≡ Some j → PlaceAt
   place_at e =
       record {
         from = t.0;
@@ -141,13 +138,13 @@ unfolding seek on_sign on_word on_keyword
 pragma_behind zero c i k j e = no_pragma k j e
 pragma_behind (suc n) c i k j e = by_sign (place_from is_at c i) e (λ m h. pragma_behind n c m k j h)
   where
-    known : (w end : ℕ) (x : Keyword) → place_from is_blank c w ≡ found.At end → pragma x (end + 1) ≡ pragma k j → Behind c j
+    known : (w end : ℕ) (x : Keyword) → place_from is_blank c w ≡ Some end → pragma x (end + 1) ≡ pragma k j → Behind c j
     known w end x f e =
         let t = place_at is_blank c w end f in
         let q : end + 1 ≡ j = cc in
         record { place = end; next = q; inside = t.inside; blank = t.passes }
 
-    by_keyword : (w end : ℕ) (x : Keyword) → place_from is_blank c w ≡ found.At end → on_keyword x (end + 1) (λ m. seek n c m) ≡ pragma k j
+    by_keyword : (w end : ℕ) (x : Keyword) → place_from is_blank c w ≡ Some end → on_keyword x (end + 1) (λ m. seek n c m) ≡ pragma k j
         → ((m : ℕ) → seek n c m ≡ pragma k j → Behind c j) → Behind c j
     by_keyword w end unknown f e ih = ih (end + 1) e
     by_keyword w end jsx f e ih = known w end jsx f e
@@ -155,10 +152,10 @@ pragma_behind (suc n) c i k j e = by_sign (place_from is_at c i) e (λ m h. prag
     by_keyword w end import_source f e ih = known w end import_source f e
     by_keyword w end runtime f e ih = known w end runtime f e
 
-    by_word : (w : ℕ) (f : Found) → place_from is_blank c w ≡ f → on_word c w f (λ m. seek n c m) ≡ pragma k j
+    by_word : (w : ℕ) (f : Option ℕ) → place_from is_blank c w ≡ f → on_word c w f (λ m. seek n c m) ≡ pragma k j
         → ((m : ℕ) → seek n c m ≡ pragma k j → Behind c j) → Behind c j
-    by_word w (found.At end) f e ih = by_keyword w end (keyword_of (take (end - w) (drop w c))) f e ih
-    by_word w found.Nothing f e ih = no_pragma k j e
+    by_word w (Some end) f e ih = by_keyword w end (keyword_of (take (end - w) (drop w c))) f e ih
+    by_word w None f e ih = no_pragma k j e
 
     on_counted : (sign : ℕ) (b : Bool)
         → cond b (on_word c (sign + 4) (place_from is_blank c (sign + 4)) (λ m. seek n c m)) (seek n c (sign + 1)) ≡ pragma k j
@@ -166,9 +163,9 @@ pragma_behind (suc n) c i k j e = by_sign (place_from is_at c i) e (λ m h. prag
     on_counted sign true e ih = by_word (sign + 4) (place_from is_blank c (sign + 4)) refl e ih
     on_counted sign false e ih = ih (sign + 1) e
 
-    by_sign : (f : Found) → on_sign c i f (λ m. seek n c m) ≡ pragma k j → ((m : ℕ) → seek n c m ≡ pragma k j → Behind c j) → Behind c j
-    by_sign found.Nothing e ih = no_pragma k j e
-    by_sign (found.At sign) e ih = on_counted sign (counts c i sign) e ih
+    by_sign : (f : Option ℕ) → on_sign c i f (λ m. seek n c m) ≡ pragma k j → ((m : ℕ) → seek n c m ≡ pragma k j → Behind c j) → Behind c j
+    by_sign None e ih = no_pragma k j e
+    by_sign (Some sign) e ih = on_counted sign (counts c i sign) e ih
 
 -- the first byte behind blanks stands behind a blank
 pub value_begins : (c : List ℕ) (j : ℕ) → Behind c j → value_start c j < length c → Behind c (value_start c j)
@@ -176,9 +173,9 @@ unfolding or_else
 value_begins c j b h =
     go (place_from (λ x. not (is_blank x)) c j) refl h
   where
-    go : (f : Found) → place_from (λ x. not (is_blank x)) c j ≡ f → or_else (length c) f < length c → Behind c (or_else (length c) f)
-    go found.Nothing e h = absurd (omega arith)
-    go (found.At i) e h = at_first (eqb i j) refl
+    go : (f : Option ℕ) → place_from (λ x. not (is_blank x)) c j ≡ f → or_else (length c) f < length c → Behind c (or_else (length c) f)
+    go None e h = absurd (omega arith)
+    go (Some i) e h = at_first (eqb i j) refl
       where
         t : PlaceAt (λ x. not (is_blank x)) c j i
         t = place_at (λ x. not (is_blank x)) c j i e
@@ -205,13 +202,13 @@ unfolding or_else
 value_ends c i h f g =
     go (find_from is_white 0 (drop i c)) refl f g
   where
-    go : (w : Found) → find_from is_white 0 (drop i c) ≡ w → {A : Type 0}
+    go : (w : Option ℕ) → find_from is_white 0 (drop i c) ≡ w → {A : Type 0}
         → (i + length (take (or_else (length (drop i c)) w) (drop i c)) ≡ length c → A)
         → (i + length (take (or_else (length (drop i c)) w) (drop i c)) < length c
         → is_white (get_or c (i + length (take (or_else (length (drop i c)) w) (drop i c))) 0) ≡ true → A)
         → A
-    go found.Nothing e f g = f (omega (arith, ap length (take-length (drop i c)), length-drop i c))
-    go (found.At n) e f g =
+    go None e f g = f (omega (arith, ap length (take-length (drop i c)), length-drop i c))
+    go (Some n) e f g =
         let t = find_found is_white (drop i c) n e in
         let l : length (take n (drop i c)) ≡ n = length-take-le n (drop i c) (omega (arith, t.inside)) in
         g (omega (arith, t.inside, length-drop i c)) (rw (l, ← get_or-drop i c n 0) t.passes)
@@ -229,15 +226,15 @@ pub borne_whole : (text : List ℕ) (o : Options) → Borne text o → spans_bor
 borne_whole text o h = rw (h.pair_pragma, h.pair_frag, h.source, h.ts_pragma, h.ts_frag)
 
 module _ (text : List ℕ) where
-  either_borne : (b : Bool) (x y : Optional) → borne_out text x ≡ true → borne_out text y ≡ true → borne_out text (cond b x y) ≡ true
+  either_borne : (b : Bool) (x y : Option Span) → borne_out text x ≡ true → borne_out text y ≡ true → borne_out text (cond b x y) ≡ true
   either_borne true x y h k = h
   either_borne false x y h k = k
 
-  applied_borne : (o : Options) (k : Keyword) (s : Span) (v : List ℕ) → Borne text o → borne_out text (Present s) ≡ true → Borne text (applied o k s v)
+  applied_borne : (o : Options) (k : Keyword) (s : Span) (v : List ℕ) → Borne text o → borne_out text (Some s) ≡ true → Borne text (applied o k s v)
   unfolding applied
   applied_borne o jsx s v h e =
       record {
-        pair_pragma = either_borne (sets_pair o.flags) (Present s) o.pragma e h.pair_pragma;
+        pair_pragma = either_borne (sets_pair o.flags) (Some s) o.pragma e h.pair_pragma;
         pair_frag = h.pair_frag;
         source = h.source;
         ts_pragma = e;
@@ -246,7 +243,7 @@ module _ (text : List ℕ) where
   applied_borne o frag s v h e =
       record {
         pair_pragma = h.pair_pragma;
-        pair_frag = either_borne (sets_pair o.flags) (Present s) o.pragma_frag e h.pair_frag;
+        pair_frag = either_borne (sets_pair o.flags) (Some s) o.pragma_frag e h.pair_frag;
         source = h.source;
         ts_pragma = h.ts_pragma;
         ts_frag = e;
@@ -259,7 +256,7 @@ module _ (text : List ℕ) where
 
 -- ---- a comment
 
-module _ (text : List ℕ) (good : first_ill text ≡ found.Nothing) (s : Span) (in_text : InOrder text s) where
+module _ (text : List ℕ) (good : first_ill text ≡ None) (s : Span) (in_text : InOrder text s) where
   c : List ℕ
   c = part_of text s
 
@@ -335,7 +332,7 @@ abbrev pub AllInOrder : List ℕ → List Span → Type 0
 AllInOrder text [] = Unit {0}
 AllInOrder text (s ∷ ss) = InOrder text s × AllInOrder text ss
 
-pub comments_borne : (text : List ℕ) → first_ill text ≡ found.Nothing → (o : Options) (ss : List Span) → AllInOrder text ss → Borne text o
+pub comments_borne : (text : List ℕ) → first_ill text ≡ None → (o : Options) (ss : List Span) → AllInOrder text ss → Borne text o
     → Borne text (with_comments text o ss)
 unfolding with_comments
 comments_borne text good o [] a h = h

@@ -3,9 +3,9 @@
 --     readings_set     how open places were read
 -- Assumes nothing.
 use Rattle.std.specs.Prelude.{refl}
-use Rattle.text.specs.Bytes.{same, find_from}
+use Rattle.text.specs.Bytes.{find_from}
 use Rattle.text.specs.Utf8.{within, width, after, ill_from, first_ill}
-use Rattle.text.specs.Chars.{char_of, is_white_space, is_line_terminator}
+use Rattle.text.specs.Chars.{front_code, char_of, is_white_space, is_line_terminator}
 use Rattle.text.specs.Spans.{part_of, cuts_at, bounds_of}
 use Rattle.references.specs.References.{is_of, run, closed, opens_as, opens_in, has_reference}
 use Rattle.tape.specs.Refusals.{fault_number, number_of, figure_of}
@@ -15,7 +15,7 @@ use Rattle.definitions.specs.Judging.{◌then◌, from, spanned, named, worse, r
 use Rattle.definitions.specs.Judging as judging
 use Rattle.definitions.specs.Options.{flags_of, conform}
 use Rattle.definitions.specs.Comments.{or_else, keyword_of, counts, on_keyword, on_word, on_sign, seek, applied, on_value, on_search, comment_from, with_comment, with_comments}
-use Rattle.definitions.specs.Pragmas.{onto, split, all_parts, is_identifier_name, is_one_of, is_reserved_word, tail_from, meta_behind, parts_read, pragma_of, behind_place, pragma_in, form_by}
+use Rattle.definitions.specs.Pragmas.{onto, split, is_identifier_start, is_identifier_part, is_identifier_name, is_reserved_word, tail_from, meta_behind, parts_read, pragma_of, behind_place, pragma_in, form_by}
 use Rattle.definitions.specs.Opening.{option_by, options_from, opening_by, read_opening, options_of, mode_of, pragma_under, settings_of, pragma_notice, opening_notices, shifted, over_ascii_in, if_classic, pragmas_checked, notices_fitted, judge_opening}
 use Rattle.definitions.specs.Reading.{lettered, opened, members_by, name_by, properties_by, attributes_by, value_by, children_by, members_at, name_at, properties_at, element_at, fragment_at, attributes_at, value_at, children_at, scopes_by, scopes_at, root_by, whole, read_root}
 use Rattle.definitions.specs.JsxText.{chars_from, lines_of, trim_front, before_trimmed, trim_back, later_lines, end_of, spans_of, kept_lines, jsx_text}
@@ -30,13 +30,13 @@ use Rattle.definitions.specs.Examples.{digit, hex_of, pairs_of, opening_reply, m
 
 computed : Answered table × Answered readings
 unfolding reply_to pairs_of opening_reply meaning_of meaning digit hex_of
-    same find_from within width after ill_from first_ill char_of is_white_space is_line_terminator part_of cuts_at bounds_of
+    find_from within width after ill_from first_ill front_code char_of is_white_space is_line_terminator part_of cuts_at bounds_of
     fault_number number_of figure_of flags_command option_command
     heritage_command scope_command name_command member_command attribute_command property_command value_command child_command
     ◌then◌ judging.map from spanned named worse refuse refuse_at read
     flags_of conform
     or_else keyword_of counts on_keyword on_word on_sign seek applied on_value on_search comment_from with_comment with_comments
-    onto split all_parts is_identifier_name is_one_of is_reserved_word tail_from meta_behind parts_read pragma_of behind_place pragma_in form_by
+    onto split is_identifier_start is_identifier_part is_identifier_name is_reserved_word tail_from meta_behind parts_read pragma_of behind_place pragma_in form_by
     option_by options_from opening_by read_opening options_of mode_of pragma_under settings_of pragma_notice opening_notices shifted over_ascii_in if_classic pragmas_checked notices_fitted judge_opening
     is_of run closed opens_as opens_in has_reference lettered opened members_by name_by properties_by attributes_by value_by children_by members_at name_at properties_at element_at fragment_at attributes_at value_at children_at scopes_by scopes_at root_by whole read_root
     chars_from lines_of trim_front before_trimmed trim_back later_lines end_of spans_of kept_lines jsx_text

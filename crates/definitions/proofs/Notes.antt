@@ -70,7 +70,7 @@ either_noted false xs ys n h k = k
 
 piece_noted : (s : Span) → noted (piece s) ≤ 0
 unfolding noted
-piece_noted s = either_noted (eqb s.len 0) [] (put_span call.piece s) 0 (omega arith) (omega arith)
+piece_noted s = either_noted (eqb s.len 0) [] (put_span call.Piece s) 0 (omega arith) (omega arith)
 
 joined_noted : (ss : List Span) → noted (joined ss) ≤ 0
 unfolding joined noted
@@ -108,23 +108,23 @@ source_noted c p = either_noted c.settings.options.flags.source_plugin _ [] 0 (o
 
 self_noted : (c : Context) → noted (self_output c) ≤ 0
 unfolding self_output noted
-self_noted c = either_noted (c.settings.options.flags.self_plugin && c.self_allowed) (put call.self) [] 0 (omega arith) (omega arith)
+self_noted c = either_noted (c.settings.options.flags.self_plugin && c.self_allowed) (put call.SelfProperty) [] 0 (omega arith) (omega arith)
 
 static_noted : (c : Context) (n : ℕ) → noted (static_children c n) ≤ 0
 unfolding static_children noted
 static_noted c n =
     either_noted c.settings.options.flags.development _ [] 0
-    (either_noted (leb 2 n) (put call.literal_true) (put call.literal_false) 0 (omega arith) (omega arith))
+    (either_noted (leb 2 n) (put call.LiteralTrue) (put call.LiteralFalse) 0 (omega arith) (omega arith))
     (omega arith)
 
 no_key_noted : (c : Context) → noted (no_key c) ≤ 0
 unfolding no_key noted
-no_key_noted c = either_noted c.settings.options.flags.development (put call.void_zero) [] 0 (omega arith) (omega arith)
+no_key_noted c = either_noted c.settings.options.flags.development (put call.VoidZero) [] 0 (omega arith) (omega arith)
 
 attribute_name_noted : (c : Context) (s : Span) → noted (attribute_name c s) ≤ 0
 unfolding attribute_name noted
 attribute_name_noted c s =
-    either_noted (is_found (find (eqb 0x2d) (part_of c.text s))) _ (put_span call.name s) 0 (simp noted_append (omega (arith, piece_noted s))) (omega arith)
+    either_noted (is_found (find (eqb 0x2d) (part_of c.text s))) _ (put_span call.Name s) 0 (simp noted_append (omega (arith, piece_noted s))) (omega arith)
 
 carried_noted : (ps : List Property) → noted (carried ps) ≤ 0
 unfolding carried noted
@@ -134,7 +134,7 @@ carried_noted (prop_name e s ∷ ps) = carried_noted ps
 
 literal_noted : (c : Context) (e : ℕ) (ps : List Property) → noted (lower_literal c e ps) ≤ 0
 unfolding noted
-literal_noted c e ps = either_noted (has_proto c ps) (put_over call.spread_property e) (carried ps) 0 (omega arith) (carried_noted ps)
+literal_noted c e ps = either_noted (has_proto c ps) (put_over call.SpreadProperty e) (carried ps) 0 (omega arith) (carried_noted ps)
 
 -- ---- names, keys and calls
 
@@ -167,9 +167,9 @@ unfolding lone_spread_or noted
 lone_noted c no_attributes os = omega arith
 lone_noted c (attribute s v a) os = omega arith
 lone_noted c (namespaced_attribute s r v a) os = omega arith
-lone_noted c (spread e a) os = either_noted (is_last a && plugins_off c) (put_over call.sole_spread e) os (noted os) (omega arith) (omega arith)
+lone_noted c (spread e a) os = either_noted (is_last a && plugins_off c) (put_over call.SoleSpread e) os (noted os) (omega arith) (omega arith)
 lone_noted c (literal e ps a) os =
-    either_noted (is_last a && plugins_off c && not (has_proto c ps)) (put_over call.sole_spread e) os (noted os) (omega arith) (omega arith)
+    either_noted (is_last a && plugins_off c && not (has_proto c ps)) (put_over call.SoleSpread e) os (noted os) (omega arith) (omega arith)
 
 automatic_noted : (c : Context) (ps : List Output) (k : Children) (items key added tag : List Output)
     → noted (automatic_call c ps k items key added tag) ≤ noted ps + noted items + noted key + noted added + noted tag
@@ -252,9 +252,9 @@ module _ (c : Context) where
         go : (k g : Bool) → noted (lower_value c v) ≤ size_value v
             → ((o : List Output) → noted (lower_attributes c false a) + noted (lower_key c a o) ≤ size_attributes a + noted o)
             → noted (cond (k && g && not false) (lower_attributes c false a) (key_notice c s v ++ attribute_name c s ++ lower_value c v ++ lower_attributes c false a))
-            + noted (lower_key c a (cond (k && g) (put call.key ++ lower_value c v) other))
+            + noted (lower_key c a (cond (k && g) (put call.Key ++ lower_value c v) other))
             ≤ 5 + size_value v + size_attributes a + noted other
-        go true true w h = omega (arith, h (put call.key ++ lower_value c v), noted_append (put call.key) (lower_value c v))
+        go true true w h = omega (arith, h (put call.Key ++ lower_value c v), noted_append (put call.Key) (lower_value c v))
         go true false w h = simp noted_append (omega (arith, h other, key_noted c s v, attribute_name_noted c s))
         go false true w h = simp noted_append (omega (arith, h other, key_noted c s v, attribute_name_noted c s))
         go false false w h = simp noted_append (omega (arith, h other, key_noted c s v, attribute_name_noted c s))

@@ -4,6 +4,7 @@
 --     options_borne          the options' spans are in order
 --     opening_sound          the state that it leaves is sound
 -- Assumes nothing.
+use Rattle.std.specs.Prelude.{None, Option, Some, Err, Ok, Result}
 use mathlib.Core.Path.{◌≡◌, refl, ap, subst}
 use mathlib.Core.Bool.{true, false}
 use mathlib.Core.List.{List, [], ◌∷◌, ◌++◌}
@@ -11,15 +12,13 @@ use Prim.Native.Nat.{ℕ, zero, suc, ◌≤◌}
 use native.Mathlib.Omega.{arith}
 use lib.ListN.{length, drop}
 use borrow.Author.Tests.{eq-eqb, ltb-false}
-use Rattle.text.specs.declared.bytes.Found.TheVariants as found
 use Rattle.text.specs.declared.spans.Span.{Span}
 use Rattle.text.specs.declared.spans.Bounds.{Bounds}
 use Rattle.text.specs.declared.spans.Bounds.TheVariants as bounds
 use Rattle.text.specs.Utf8.{first_ill}
 use Rattle.text.specs.Spans.{bounds_of}
 use Rattle.tape.specs.declared.refusal.Fault.{Fault}
-use Rattle.commands.specs.declared.opening.FlagsCommand.{FlagsCommand}
-use Rattle.commands.specs.declared.opening.FlagsCommand.TheVariants as flags
+use Rattle.commands.specs.declared.error.CommandError.{CommandError}
 use Rattle.commands.specs.declared.opening.OptionCommand.{OptionCommand}
 use Rattle.commands.specs.declared.opening.OptionCommand.TheVariants as option
 use Rattle.commands.specs.Opening.{flags_command, option_command}
@@ -81,19 +80,18 @@ module _ (text : List ℕ) (p : Opening) where
           let g = from_done 5 (options_from f text l q (drop 5 t)) p u d.1 in
           ih l q g.0 (k d.0) g.1
 
-      by : (c : OptionCommand) → option_by text t last o c next ≡ done p u
+      by : (c : Result (Option OptionCommand) CommandError) → option_by text t last o c next ≡ done p u
           → ((l : ℕ) (q : Opening) (v : ℕ) → Told text q → options_from f text l q (drop 5 t) ≡ done p v → Told text p)
           → Told text p
-      by option.End e ih = let q : o ≡ p = cc in subst (Told text) q h
-      by option.Wrong e ih = not_done _ _ p u e
-      by option.Cut e ih = not_done _ _ p u e
-      by (option.Pragma s) e ih =
+      by (Ok None) e ih = let q : o ≡ p = cc in subst (Told text) q h
+      by (Err x) e ih = not_done _ _ p u e
+      by (Ok (Some (option.Pragma s))) e ih =
           on s 0x62 (with_pragma o s) ih e (λ b. record { pragma = b; frag = h.frag; source = h.source; comments = h.comments })
-      by (option.PragmaFrag s) e ih =
+      by (Ok (Some (option.PragmaFrag s))) e ih =
           on s 0x63 (with_pragma_frag o s) ih e (λ b. record { pragma = h.pragma; frag = b; source = h.source; comments = h.comments })
-      by (option.ImportSource s) e ih =
+      by (Ok (Some (option.ImportSource s))) e ih =
           on s 0x64 (with_import_source o s) ih e (λ b. record { pragma = h.pragma; frag = h.frag; source = b; comments = h.comments })
-      by (option.Comment s) e ih =
+      by (Ok (Some (option.Comment s))) e ih =
           on s 0x64 (and_comment o s) ih e
           (λ b. record { pragma = h.pragma; frag = h.frag; source = h.source; comments = and_one text o.comments s h.comments (in_order_bounds text s b) })
 
@@ -101,19 +99,17 @@ module _ (text : List ℕ) (p : Opening) where
   unfolding read_opening opening_by borne_out
   opening_told t u e = by (flags_command t) e
     where
-      by : (c : FlagsCommand)
+      by : (c : Result ℕ CommandError)
           → opening_by t c (λ n. from 3 (options_from (suc (length t)) text 0x61 (bare n) (drop 3 t))) ≡ done p u → Told text p
-      by flags.Wrong e = not_done _ _ p u e
-      by flags.Cut e = not_done _ _ p u e
-      by flags.Bad e = not_done _ _ p u e
-      by (flags.Flags n) e =
+      by (Err x) e = not_done _ _ p u e
+      by (Ok n) e =
           let g = from_done 3 (options_from (suc (length t)) text 0x61 (bare n) (drop 3 t)) p u e in
           options_told (suc (length t)) 0x61 (bare n) (drop 3 t) g.0
           (record { pragma = refl; frag = refl; source = refl; comments = tt }) g.1
 
 -- ---- an accepted opening
 
-pub options_borne : (text : List ℕ) → first_ill text ≡ found.Nothing → (o : Opening) → Told text o → Borne text (options_of text o)
+pub options_borne : (text : List ℕ) → first_ill text ≡ None → (o : Opening) → Told text o → Borne text (options_of text o)
 unfolding options_of borne_out
 options_borne text good o h =
     comments_borne text good _ o.comments h.comments
@@ -125,8 +121,8 @@ same_form_itself f = rw (eq-eqb (root_number f.root) (root_number f.root) refl, 
 -- in classic settings no pragma has a byte over 7F
 abbrev Ascii : List ℕ → Settings → Type 0
 Ascii text s =
-    (if_classic s.mode (over_ascii_in text s.options.pragma) ≡ found.Nothing)
-    × (if_classic s.mode (over_ascii_in text s.options.pragma_frag) ≡ found.Nothing)
+    (if_classic s.mode (over_ascii_in text s.options.pragma) ≡ None)
+    × (if_classic s.mode (over_ascii_in text s.options.pragma_frag) ≡ None)
 
 open_sound : (text : List ℕ) (o : Options) → Borne text o → Ascii text (settings_of text o) → Sound text (open_state text (settings_of text o))
 unfolding settings_of form_borne_out numbered_from unrepeated all_bindable
@@ -142,7 +138,7 @@ open_sound text o h a =
 
 pub record Opens (text : List ℕ) (s : Settings) (room : ℕ) : Type 0 where
   pub short : too_long text ≡ false
-  pub well_formed : first_ill text ≡ found.Nothing
+  pub well_formed : first_ill text ≡ None
   pub bore : sound text (open_state text s) ≡ true
   pub fits : length (opening_bytes text s) ≤ room
 

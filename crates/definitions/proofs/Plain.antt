@@ -102,26 +102,26 @@ plain_notify n = record { so = refl }
 -- ---- strings and names
 
 plain_piece : (s : Span) → Plain (piece s)
-plain_piece s = choice (eqb s.len 0) none (plain_span call.piece s)
+plain_piece s = choice (eqb s.len 0) none (plain_span call.Piece s)
 
 plain_quoted : {ps : List Output} → Plain ps → Plain (quoted ps)
 unfolding bare_code
-plain_quoted h = plain_put call.string_begin refl and h and plain_put call.string_end refl
+plain_quoted h = plain_put call.StringBegin refl and h and plain_put call.StringEnd refl
 
 plain_joined : (ss : List Span) → Plain (joined ss)
 unfolding joined bare_code
 plain_joined [] = none
 plain_joined (s ∷ []) = plain_piece s
-plain_joined (s ∷ r ∷ rs) = plain_piece s and plain_put call.space refl and plain_joined (r ∷ rs)
+plain_joined (s ∷ r ∷ rs) = plain_piece s and plain_put call.Space refl and plain_joined (r ∷ rs)
 
 pub plain_colonized : (s r : Span) → Plain (colonized s r)
 unfolding bare_code
-plain_colonized s r = plain_quoted (plain_piece s and plain_put call.colon refl and plain_piece r)
+plain_colonized s r = plain_quoted (plain_piece s and plain_put call.Colon refl and plain_piece r)
 
 plain_members : (ss : List Span) → Plain (members ss)
 unfolding members
 plain_members [] = none
-plain_members (s ∷ ss) = plain_span call.member_name s and plain_members ss
+plain_members (s ∷ ss) = plain_span call.MemberName s and plain_members ss
 
 pub plain_string : (s : Span) → Plain (quoted (piece s))
 plain_string s = plain_quoted (plain_piece s)
@@ -129,8 +129,8 @@ plain_string s = plain_quoted (plain_piece s)
 pub plain_name : (c : Context) (n : Name) → Plain (lower_name c n)
 unfolding lower_name bare_code
 plain_name c (tree.plain s) = plain_string s
-plain_name c (tree.identifier s ms) = plain_span call.identifier s and plain_members ms
-plain_name c (tree.this ms) = plain_put call.this refl and plain_members ms
+plain_name c (tree.identifier s ms) = plain_span call.Identifier s and plain_members ms
+plain_name c (tree.this ms) = plain_put call.This refl and plain_members ms
 plain_name c (tree.namespaced s r) =
     choice c.settings.options.flags.throw_if_namespace (plain_notify (namespaced_tag s r)) none and plain_colonized s r
 
@@ -139,16 +139,16 @@ plain_name c (tree.namespaced s r) =
 plain_carried : (ps : List Property) → Plain (carried ps)
 unfolding carried
 plain_carried [] = none
-plain_carried (unnamed e ∷ ps) = plain_over call.carried e and plain_carried ps
-plain_carried (prop_name e s ∷ ps) = plain_over call.carried e and plain_carried ps
+plain_carried (unnamed e ∷ ps) = plain_over call.Carried e and plain_carried ps
+plain_carried (prop_name e s ∷ ps) = plain_over call.Carried e and plain_carried ps
 
 pub plain_literal : (c : Context) (e : ℕ) (ps : List Property) → Plain (lower_literal c e ps)
-plain_literal c e ps = choice (has_proto c ps) (plain_over call.spread_property e) (plain_carried ps)
+plain_literal c e ps = choice (has_proto c ps) (plain_over call.SpreadProperty e) (plain_carried ps)
 
 pub plain_attribute : (c : Context) (s : Span) → Plain (attribute_name c s)
 unfolding attribute_name bare_code
 plain_attribute c s =
-    choice (is_found (find (eqb 0x2d) (part_of c.text s))) (plain_put call.string_name refl and plain_string s) (plain_span call.name s)
+    choice (is_found (find (eqb 0x2d) (part_of c.text s))) (plain_put call.StringName refl and plain_string s) (plain_span call.Name s)
 
 pub plain_notice : (c : Context) (s : Span) (v : Value) → Plain (key_notice c s v)
 unfolding key_notice
@@ -163,12 +163,12 @@ plain_text (s ∷ ss) = plain_quoted (plain_joined (s ∷ ss))
 
 pub plain_self : (c : Context) → Plain (self_output c)
 unfolding self_output bare_code
-plain_self c = choice (c.settings.options.flags.self_plugin && c.self_allowed) (plain_put call.self refl) none
+plain_self c = choice (c.settings.options.flags.self_plugin && c.self_allowed) (plain_put call.SelfProperty refl) none
 
 pub plain_static : (c : Context) (n : ℕ) → Plain (static_children c n)
 unfolding static_children bare_code
-plain_static c n = choice (development c) (choice (leb 2 n) (plain_put call.literal_true refl) (plain_put call.literal_false refl)) none
+plain_static c n = choice (development c) (choice (leb 2 n) (plain_put call.LiteralTrue refl) (plain_put call.LiteralFalse refl)) none
 
 pub plain_no_key : (c : Context) → Plain (no_key c)
 unfolding no_key bare_code
-plain_no_key c = choice (development c) (plain_put call.void_zero refl) none
+plain_no_key c = choice (development c) (plain_put call.VoidZero refl) none

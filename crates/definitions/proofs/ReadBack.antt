@@ -14,55 +14,55 @@ use Rattle.commands.specs.declared.root.Place.{Place}
 use Rattle.tape.specs.Numbers.{u16_bytes, u32_bytes, span_bytes}
 use Rattle.commands.specs.Root.{place_at}
 use Rattle.tape.proofs.ReadBack.{u16_back, u32_back, span_back}
-use Rattle.definitions.specs.Calls.{Bare, object_begin, object_end, string_name, null, string_begin, space, string_end, colon, literal_true}
-use Rattle.definitions.specs.Calls.{literal_false, void_zero, this, children_begin, key, tag, callee, self, WithByte, call, children_end, pragma}
-use Rattle.definitions.specs.Calls.{member, call_end, WithExpression, spread_property, carried, sole_spread, expression, spread_item, WithSpan, name}
-use Rattle.definitions.specs.Calls.{piece, identifier, member_name, Command, bare, byte, over, span, binding, source, bare_code, byte_code}
+use Rattle.definitions.specs.Calls.{Bare, ObjectBegin, ObjectEnd, StringName, Null, StringBegin, Space, StringEnd, Colon, LiteralTrue}
+use Rattle.definitions.specs.Calls.{LiteralFalse, VoidZero, This, ChildrenBegin, Key, Tag, Callee, SelfProperty, WithByte, Call, ChildrenEnd, Pragma}
+use Rattle.definitions.specs.Calls.{Member, CallEnd, WithExpression, SpreadProperty, Carried, SoleSpread, Expression, SpreadItem, WithSpan, Name}
+use Rattle.definitions.specs.Calls.{Piece, Identifier, MemberName, Command, bare, byte, over, span, binding, source, bare_code, byte_code}
 use Rattle.definitions.specs.Calls.{expression_code, span_code, bytes_of, call_bytes, is_bare, is_byte, is_over, is_span}
 use Rattle.definitions.specs.Calls.{lookup, kinds, taking, read_by, read_first, read_from, read_calls}
 
 kind_of_bare : (c : Bare) → lookup (bare_code c) kinds ≡ is_bare c
 unfolding lookup bare_code
-kind_of_bare object_begin = refl
-kind_of_bare object_end = refl
-kind_of_bare string_name = refl
-kind_of_bare null = refl
-kind_of_bare string_begin = refl
-kind_of_bare space = refl
-kind_of_bare string_end = refl
-kind_of_bare colon = refl
-kind_of_bare literal_true = refl
-kind_of_bare literal_false = refl
-kind_of_bare void_zero = refl
-kind_of_bare this = refl
-kind_of_bare children_begin = refl
-kind_of_bare key = refl
-kind_of_bare tag = refl
-kind_of_bare callee = refl
-kind_of_bare self = refl
+kind_of_bare ObjectBegin = refl
+kind_of_bare ObjectEnd = refl
+kind_of_bare StringName = refl
+kind_of_bare Null = refl
+kind_of_bare StringBegin = refl
+kind_of_bare Space = refl
+kind_of_bare StringEnd = refl
+kind_of_bare Colon = refl
+kind_of_bare LiteralTrue = refl
+kind_of_bare LiteralFalse = refl
+kind_of_bare VoidZero = refl
+kind_of_bare This = refl
+kind_of_bare ChildrenBegin = refl
+kind_of_bare Key = refl
+kind_of_bare Tag = refl
+kind_of_bare Callee = refl
+kind_of_bare SelfProperty = refl
 
 kind_of_byte : (c : WithByte) → lookup (byte_code c) kinds ≡ is_byte c
 unfolding lookup byte_code
-kind_of_byte call = refl
-kind_of_byte children_end = refl
-kind_of_byte pragma = refl
-kind_of_byte member = refl
-kind_of_byte call_end = refl
+kind_of_byte Call = refl
+kind_of_byte ChildrenEnd = refl
+kind_of_byte Pragma = refl
+kind_of_byte Member = refl
+kind_of_byte CallEnd = refl
 
 kind_of_over : (c : WithExpression) → lookup (expression_code c) kinds ≡ is_over c
 unfolding lookup expression_code
-kind_of_over spread_property = refl
-kind_of_over carried = refl
-kind_of_over sole_spread = refl
-kind_of_over expression = refl
-kind_of_over spread_item = refl
+kind_of_over SpreadProperty = refl
+kind_of_over Carried = refl
+kind_of_over SoleSpread = refl
+kind_of_over Expression = refl
+kind_of_over SpreadItem = refl
 
 kind_of_span : (c : WithSpan) → lookup (span_code c) kinds ≡ is_span c
 unfolding lookup span_code
-kind_of_span name = refl
-kind_of_span piece = refl
-kind_of_span identifier = refl
-kind_of_span member_name = refl
+kind_of_span Name = refl
+kind_of_span Piece = refl
+kind_of_span Identifier = refl
+kind_of_span MemberName = refl
 
 -- operands that are all there
 taking_all : (ops t : List ℕ) (c : Command ℕ) (next : List ℕ → List (Command ℕ)) → taking (length ops) (ops ++ t) c next ≡ c ∷ next t

@@ -4,6 +4,7 @@
 --     came                             every series from a sound state comes to that
 --     series_append                    a longer list of roots
 -- Assumes nothing.
+use Rattle.std.specs.Prelude.{Err, Ok, Result, ⊤}
 use mathlib.Core.Path.{◌≡◌, refl, sym, ap, subst, ◌∙◌}
 use mathlib.Core.Bool.{true}
 use mathlib.Core.List.{List, [], ◌∷◌, ◌++◌, append-nil, append_assoc}
@@ -13,8 +14,6 @@ use lib.ListN.{length, take}
 use Rattle.tape.specs.declared.refusal.Refusal.{Refusal}
 use Rattle.definitions.specs.declared.options.Settings.{Settings}
 use Rattle.definitions.specs.declared.records.Import.{Import}
-use Rattle.definitions.specs.declared.state.Answer.{Answer}
-use Rattle.definitions.specs.declared.state.Answer.TheVariants as answer
 use Rattle.definitions.specs.Judging.{Judged, accepted, refused}
 use Rattle.definitions.specs.Tree.{Root}
 use Rattle.definitions.specs.Reading.{read_root}
@@ -145,20 +144,20 @@ module _ (text : List ℕ) (w : World) (tape : List ℕ) where
   unfolding root_outcome
   left_by j e = ap (left w) e
 
-  when_accepted : (outcome_in text w tape).stepped.answer ≡ answer.Accepted → (l : Lowered) × (judged text w tape ≡ accepted l)
+  when_accepted : (outcome_in text w tape).stepped.answer ≡ Ok tt → (l : Lowered) × (judged text w tape ≡ accepted l)
   unfolding root_outcome outcome_by
   when_accepted e = go (judged text w tape) e
     where
-      go : (j : Judged Lowered) → (outcome_by w.state w.calls w.notices j).stepped.answer ≡ answer.Accepted → (l : Lowered) × (j ≡ accepted l)
+      go : (j : Judged Lowered) → (outcome_by w.state w.calls w.notices j).stepped.answer ≡ Ok tt → (l : Lowered) × (j ≡ accepted l)
       go (accepted l) e = (l, refl)
       go (refused r) e = let z : ◌≡◌ {A = ℕ} 0 1 = cc in absurd (omega arith)
 
   -- a root that is refused changes nothing
-  pub refused_same : (r : Refusal) → (outcome_in text w tape).stepped.answer ≡ answer.Refused r → next text w tape ≡ w
+  pub refused_same : (r : Refusal) → (outcome_in text w tape).stepped.answer ≡ Err r → next text w tape ≡ w
   unfolding root_outcome outcome_by
   refused_same r e = go (judged text w tape) e
     where
-      go : (j : Judged Lowered) → (outcome_by w.state w.calls w.notices j).stepped.answer ≡ answer.Refused r → left w j ≡ w
+      go : (j : Judged Lowered) → (outcome_by w.state w.calls w.notices j).stepped.answer ≡ Err r → left w j ≡ w
       go (accepted l) e = let z : ◌≡◌ {A = ℕ} 0 1 = cc in absurd (omega arith)
       go (refused q) e = refl
 
@@ -228,15 +227,15 @@ came text s w rs (t ∷ roots) c = go (outcome_in text w t).stepped.answer refl 
     rest : List (List ℕ)
     rest = accepted_in text (next text w t) roots
 
-    go : (v : Answer) → (outcome_in text w t).stepped.answer ≡ v
+    go : (v : Result ⊤ Refusal) → (outcome_in text w t).stepped.answer ≡ v
         → ((us : List Root) → Came text s (next text w t) us → Came text s (series text (next text w t) roots) (us ++ trees_of text rest))
         → Came text s (series text (next text w t) roots) (rs ++ trees_of text (if_accepted v t rest))
-    go answer.Accepted e ih =
+    go (Ok tt) e ih =
         let j = when_accepted text w t e in
         rw append_assoc at
         (ih (rs ++ tree_of (read_root text t))
         (subst (λ (x : World). Came text s x (rs ++ tree_of (read_root text t))) (sym (left_by text w t (accepted j.0) j.1)) (taken text s w rs t j.0 c j.1)))
-    go (answer.Refused r) e ih = ih rs (subst (λ (x : World). Came text s x rs) (sym (refused_same text w t r e)) c)
+    go (Err r) e ih = ih rs (subst (λ (x : World). Came text s x rs) (sym (refused_same text w t r e)) c)
 
 pub series_append : (text : List ℕ) (w : World) (xs ys : List (List ℕ)) → series text w (xs ++ ys) ≡ series text (series text w xs) ys
 unfolding series

@@ -120,7 +120,7 @@ tag_reads Script n k = record { so = λ rest. refl }
 tag_reads Classic n k = record { so = λ rest. refl }
 
 -- 9F and the callee
-callee_reads : (m : Mode) (n : ℕ) → is_classic m ≡ false → Reads (put call.callee ++ imported m n 0) (n ∷ [])
+callee_reads : (m : Mode) (n : ℕ) → is_classic m ≡ false → Reads (put call.Callee ++ imported m n 0) (n ∷ [])
 unfolding imported commands_of callees_of callee_after callee_for bare_code byte_code is_classic name_behind numbered
 callee_reads Module n e = record { so = λ rest. refl }
 callee_reads Script n e = record { so = λ rest. refl }
@@ -130,6 +130,6 @@ pub closing_reads : (c : Context) {tag : List Output} (n : ℕ) → is_classic c
 unfolding bare_code
 closing_reads c {tag} n e h =
     subst (λ (l : List Output). Reads l (n ∷ []))
-    (ap (λ (l : List Output). l ++ put_byte call.call_end (pure_byte c.settings.pure))
-    (sym (append_assoc (put call.tag ++ tag) (put call.callee) (imported c.settings.mode n 0))))
-    ((plain_put call.tag refl onward h) joined callee_reads c.settings.mode n e still plain_byte call.call_end (pure_byte c.settings.pure))
+    (ap (λ (l : List Output). l ++ put_byte call.CallEnd (pure_byte c.settings.pure))
+    (sym (append_assoc (put call.Tag ++ tag) (put call.Callee) (imported c.settings.mode n 0))))
+    ((plain_put call.Tag refl onward h) joined callee_reads c.settings.mode n e still plain_byte call.CallEnd (pure_byte c.settings.pure))

@@ -17,15 +17,13 @@ use Rattle.text.specs.Spans.{part_of, bounds_of}
 use Rattle.references.specs.References.{has_reference}
 use Rattle.tape.specs.declared.refusal.Fault.{Fault}
 use Rattle.tape.specs.declared.refusal.Fault.TheVariants as fault
+use Rattle.std.specs.Prelude.{None, Option, Some, Err, Ok, Result}
+use Rattle.commands.specs.declared.error.CommandError.{CommandError}
 use Rattle.commands.specs.declared.root.Place.{Place}
-use Rattle.commands.specs.declared.root.HeritageCommand.{HeritageCommand}
-use Rattle.commands.specs.declared.root.HeritageCommand.TheVariants as heritages
 use Rattle.commands.specs.declared.root.ScopeCommand.{ScopeCommand}
 use Rattle.commands.specs.declared.root.ScopeCommand.TheVariants as scopes
 use Rattle.commands.specs.declared.root.NameCommand.{NameCommand}
 use Rattle.commands.specs.declared.root.NameCommand.TheVariants as names
-use Rattle.commands.specs.declared.root.MemberCommand.{MemberCommand}
-use Rattle.commands.specs.declared.root.MemberCommand.TheVariants as members
 use Rattle.commands.specs.declared.root.AttributeCommand.{AttributeCommand}
 use Rattle.commands.specs.declared.root.AttributeCommand.TheVariants as attributes
 use Rattle.commands.specs.declared.root.PropertyCommand.{PropertyCommand}
@@ -119,74 +117,69 @@ behind size u t = told_from u t (λ a v e. omega arith)
 abbrev size_members : List Span → ℕ
 size_members ms = 5 * length ms
 
-members_by_command : (text t : List ℕ) (c : MemberCommand) (next : ℕ → Parsed (List Span)) → ((u : ℕ) → Behind size_members u (next u)) → Sized size_members (members_by text t c next)
+members_by_command : (text t : List ℕ) (c : Result (Option Span) CommandError) (next : ℕ → Parsed (List Span)) → ((u : ℕ) → Behind size_members u (next u)) → Sized size_members (members_by text t c next)
 unfolding members_by
-members_by_command text t members.Other next h = tells refl
-members_by_command text t members.Cut next h = faults
-members_by_command text t (members.Member s) next h = told_named (bounds_of text s) (told_map (s ∷◌) (h 5) (λ a u e. omega arith))
+members_by_command text t (Ok None) next h = tells refl
+members_by_command text t (Err e) next h = faults
+members_by_command text t (Ok (Some s)) next h = told_named (bounds_of text s) (told_map (s ∷◌) (h 5) (λ a u e. omega arith))
 
-name_by_command : (text t : List ℕ) (c : NameCommand) (next : ℕ → Parsed (List Span)) → ((u : ℕ) → Behind size_members u (next u)) → Sized size_name (name_by text t c next)
+name_by_command : (text t : List ℕ) (c : Result NameCommand CommandError) (next : ℕ → Parsed (List Span)) → ((u : ℕ) → Behind size_members u (next u)) → Sized size_name (name_by text t c next)
 unfolding name_by size_name
-name_by_command text t names.Wrong next h = faults
-name_by_command text t names.Cut next h = faults
-name_by_command text t (names.Plain s) next h = told_named (bounds_of text s) (tells refl)
-name_by_command text t (names.Identifier s) next h = told_named (bounds_of text s) (told_map (identifier s) (h 5) (λ a u e. omega arith))
-name_by_command text t names.This next h = told_map this (h 1) (λ a u e. omega arith)
-name_by_command text t (names.Namespaced s r) next h = told_named (worse (bounds_of text s) (bounds_of text r)) (tells refl)
+name_by_command text t (Err e) next h = faults
+name_by_command text t (Ok (names.Plain s)) next h = told_named (bounds_of text s) (tells refl)
+name_by_command text t (Ok (names.Identifier s)) next h = told_named (bounds_of text s) (told_map (identifier s) (h 5) (λ a u e. omega arith))
+name_by_command text t (Ok names.This) next h = told_map this (h 1) (λ a u e. omega arith)
+name_by_command text t (Ok (names.Namespaced s r)) next h = told_named (worse (bounds_of text s) (bounds_of text r)) (tells refl)
 
-properties_by_command : (text t : List ℕ) (c : PropertyCommand) (next : ℕ → Parsed (List Property)) → ((u : ℕ) → Behind size_properties u (next u))
+properties_by_command : (text t : List ℕ) (c : Result PropertyCommand CommandError) (next : ℕ → Parsed (List Property)) → ((u : ℕ) → Behind size_properties u (next u))
     → Sized size_properties (properties_by text t c next)
 unfolding properties_by size_properties
-properties_by_command text t properties.Wrong next h = faults
-properties_by_command text t properties.Cut next h = faults
-properties_by_command text t properties.End next h = tells refl
-properties_by_command text t (properties.Property e) next h = told_map (unnamed e ∷◌) (h 3) (λ a u e. omega arith)
-properties_by_command text t (properties.Named e s) next h = told_spanned (bounds_of text s) (told_map (prop_name e s ∷◌) (h 7) (λ a u e. omega arith))
+properties_by_command text t (Err e) next h = faults
+properties_by_command text t (Ok properties.End) next h = tells refl
+properties_by_command text t (Ok (properties.Property e)) next h = told_map (unnamed e ∷◌) (h 3) (λ a u e. omega arith)
+properties_by_command text t (Ok (properties.Named e s)) next h = told_spanned (bounds_of text s) (told_map (prop_name e s ∷◌) (h 7) (λ a u e. omega arith))
 
-attributes_by_command : (text t : List ℕ) (c : AttributeCommand) (value : ℕ → Parsed Value) (props : ℕ → Parsed (List Property)) (next : ℕ → Parsed Attributes)
+attributes_by_command : (text t : List ℕ) (c : Result AttributeCommand CommandError) (value : ℕ → Parsed Value) (props : ℕ → Parsed (List Property)) (next : ℕ → Parsed Attributes)
     → ((u : ℕ) → Behind size_value u (value u)) → ((u : ℕ) → Behind size_properties u (props u)) → ((u : ℕ) → Behind size_attributes u (next u))
     → Sized size_attributes (attributes_by text t c value props next)
 unfolding attributes_by size_attributes
-attributes_by_command text t attributes.Wrong value props next v p h = faults
-attributes_by_command text t attributes.Cut value props next v p h = faults
-attributes_by_command text t attributes.End value props next v p h = tells refl
-attributes_by_command text t (attributes.Plain s) value props next v p h =
+attributes_by_command text t (Err e) value props next v p h = faults
+attributes_by_command text t (Ok attributes.End) value props next v p h = tells refl
+attributes_by_command text t (Ok (attributes.Plain s)) value props next v p h =
     told_named (bounds_of text s) (told_then _ (v 5) (λ a u e. told_map (attribute s a) (h u) (λ b w d. omega arith)))
-attributes_by_command text t (attributes.Namespaced s r) value props next v p h =
+attributes_by_command text t (Ok (attributes.Namespaced s r)) value props next v p h =
     told_named (worse (bounds_of text s) (bounds_of text r)) (told_then _ (v 9) (λ a u e. told_map (namespaced_attribute s r a) (h u) (λ b w d. omega arith)))
-attributes_by_command text t (attributes.Spread e) value props next v p h = told_map (spread e) (h 3) (λ a u d. omega arith)
-attributes_by_command text t (attributes.Literal e) value props next v p h = told_then _ (p 3) (λ a u d. told_map (literal e a) (h u) (λ b w c. omega arith))
+attributes_by_command text t (Ok (attributes.Spread e)) value props next v p h = told_map (spread e) (h 3) (λ a u d. omega arith)
+attributes_by_command text t (Ok (attributes.Literal e)) value props next v p h = told_then _ (p 3) (λ a u d. told_map (literal e a) (h u) (λ b w c. omega arith))
 
 -- a node behind the nine bytes of its command
 abbrev NodeSized : Parsed Node → Type 0
 NodeSized p = Told (λ n u. size_node n ≡ 9 + u) p
 
-value_by_command : (text : List ℕ) (d : ℕ) (t : List ℕ) (c : ValueCommand) (full bare : Place → Parsed Node)
+value_by_command : (text : List ℕ) (d : ℕ) (t : List ℕ) (c : Result ValueCommand CommandError) (full bare : Place → Parsed Node)
     → ((p : Place) → NodeSized (full p)) → ((p : Place) → NodeSized (bare p)) → Sized size_value (value_by text d t c full bare)
 unfolding value_by size_value
-value_by_command text d t values.Wrong full bare h k = faults
-value_by_command text d t values.Cut full bare h k = faults
-value_by_command text d t values.Absent full bare h k = tells refl
-value_by_command text d t (values.Text s) full bare h k = told_lettered text s (tells refl)
-value_by_command text d t (values.Expression e) full bare h k = tells refl
-value_by_command text d t values.Empty full bare h k = tells refl
-value_by_command text d t (values.Element p) full bare h k = told_map node_value (told_opened {S = λ n u. size_node n ≡ u} d p (h p) (λ n u e. e)) (λ n u e. e)
-value_by_command text d t (values.Fragment p) full bare h k = told_map node_value (told_opened {S = λ n u. size_node n ≡ u} d p (k p) (λ n u e. e)) (λ n u e. e)
+value_by_command text d t (Err e) full bare h k = faults
+value_by_command text d t (Ok values.Absent) full bare h k = tells refl
+value_by_command text d t (Ok (values.Text s)) full bare h k = told_lettered text s (tells refl)
+value_by_command text d t (Ok (values.Expression e)) full bare h k = tells refl
+value_by_command text d t (Ok values.Empty) full bare h k = tells refl
+value_by_command text d t (Ok (values.Element p)) full bare h k = told_map node_value (told_opened {S = λ n u. size_node n ≡ u} d p (h p) (λ n u e. e)) (λ n u e. e)
+value_by_command text d t (Ok (values.Fragment p)) full bare h k = told_map node_value (told_opened {S = λ n u. size_node n ≡ u} d p (k p) (λ n u e. e)) (λ n u e. e)
 
-children_by_command : (text : List ℕ) (d : ℕ) (t : List ℕ) (c : ChildCommand) (full bare : Place → Parsed Node) (next : ℕ → Parsed Children)
+children_by_command : (text : List ℕ) (d : ℕ) (t : List ℕ) (c : Result ChildCommand CommandError) (full bare : Place → Parsed Node) (next : ℕ → Parsed Children)
     → ((p : Place) → NodeSized (full p)) → ((p : Place) → NodeSized (bare p)) → ((u : ℕ) → Behind size_children u (next u))
     → Sized size_children (children_by text d t c full bare next)
 unfolding children_by size_children
-children_by_command text d t children.Wrong full bare next h k n = faults
-children_by_command text d t children.Cut full bare next h k n = faults
-children_by_command text d t children.End full bare next h k n = tells refl
-children_by_command text d t (children.Text s) full bare next h k n = told_lettered text s (told_map (text_child s) (n 5) (λ a u e. omega arith))
-children_by_command text d t (children.Expression e) full bare next h k n = told_map (expression_child e) (n 3) (λ a u e. omega arith)
-children_by_command text d t children.Empty full bare next h k n = told_map empty_child (n 1) (λ a u e. omega arith)
-children_by_command text d t (children.Spread e) full bare next h k n = told_map (spread_child e) (n 3) (λ a u e. omega arith)
-children_by_command text d t (children.Element p) full bare next h k n =
+children_by_command text d t (Err e) full bare next h k n = faults
+children_by_command text d t (Ok children.End) full bare next h k n = tells refl
+children_by_command text d t (Ok (children.Text s)) full bare next h k n = told_lettered text s (told_map (text_child s) (n 5) (λ a u e. omega arith))
+children_by_command text d t (Ok (children.Expression e)) full bare next h k n = told_map (expression_child e) (n 3) (λ a u e. omega arith)
+children_by_command text d t (Ok children.Empty) full bare next h k n = told_map empty_child (n 1) (λ a u e. omega arith)
+children_by_command text d t (Ok (children.Spread e)) full bare next h k n = told_map (spread_child e) (n 3) (λ a u e. omega arith)
+children_by_command text d t (Ok (children.Element p)) full bare next h k n =
     told_then _ (told_opened {S = λ x u. size_node x ≡ u} d p (h p) (λ x u e. e)) (λ a u e. told_map (node_child a) (n u) (λ b w c. omega arith))
-children_by_command text d t (children.Fragment p) full bare next h k n =
+children_by_command text d t (Ok (children.Fragment p)) full bare next h k n =
     told_then _ (told_opened {S = λ x u. size_node x ≡ u} d p (k p) (λ x u e. e)) (λ a u e. told_map (node_child a) (n u) (λ b w c. omega arith))
 
 -- ---- each reader
@@ -245,15 +238,13 @@ mutual
 abbrev ScopedSized : Parsed Scoped → Type 0
 ScopedSized p = Told (λ s u. size_node s.node ≤ u) p
 
-scopes_by_command : (text t : List ℕ) (c : ScopeCommand) (full bare : Place → Parsed Node) (next : ℕ → Parsed Scoped)
+scopes_by_command : (text t : List ℕ) (c : Result ScopeCommand CommandError) (full bare : Place → Parsed Node) (next : ℕ → Parsed Scoped)
     → ((p : Place) → NodeSized (full p)) → ((p : Place) → NodeSized (bare p)) → ((k : ℕ) → ScopedSized (next k)) → ScopedSized (scopes_by text t c full bare next)
 unfolding scopes_by
-scopes_by_command text t scopes.Wrong full bare next h k n = faults
-scopes_by_command text t scopes.Cut full bare next h k n = faults
-scopes_by_command text t scopes.Bad full bare next h k n = faults
-scopes_by_command text t (scopes.Scope x) full bare next h k n = told_map (in_scope x) (n x) (λ s u e. e)
-scopes_by_command text t (scopes.Element p) full bare next h k n = told_map unscoped (told_opened {S = λ x u. size_node x ≡ u} 0 p (h p) (λ x u e. e)) (λ x u e. omega arith)
-scopes_by_command text t (scopes.Fragment p) full bare next h k n = told_map unscoped (told_opened {S = λ x u. size_node x ≡ u} 0 p (k p) (λ x u e. e)) (λ x u e. omega arith)
+scopes_by_command text t (Err e) full bare next h k n = faults
+scopes_by_command text t (Ok (scopes.Scope x)) full bare next h k n = told_map (in_scope x) (n x) (λ s u e. e)
+scopes_by_command text t (Ok (scopes.Element p)) full bare next h k n = told_map unscoped (told_opened {S = λ x u. size_node x ≡ u} 0 p (h p) (λ x u e. e)) (λ x u e. omega arith)
+scopes_by_command text t (Ok (scopes.Fragment p)) full bare next h k n = told_map unscoped (told_opened {S = λ x u. size_node x ≡ u} 0 p (k p) (λ x u e. e)) (λ x u e. omega arith)
 
 scopes_size : (f : ℕ) (text : List ℕ) (known : Bool) (t : List ℕ) → ScopedSized (scopes_at f text known t)
 unfolding scopes_at
@@ -267,12 +258,10 @@ scopes_size (suc f) text known t =
 abbrev RootSized : Parsed Root → Type 0
 RootSized p = Told (λ r u. size_node r.node ≤ u) p
 
-root_by_command : (t : List ℕ) (c : HeritageCommand) (rest : Parsed Scoped) → ScopedSized rest → RootSized (root_by t c rest)
+root_by_command : (t : List ℕ) (c : Result ℕ CommandError) (rest : Parsed Scoped) → ScopedSized rest → RootSized (root_by t c rest)
 unfolding root_by
-root_by_command t heritages.Wrong rest h = faults
-root_by_command t heritages.Cut rest h = faults
-root_by_command t heritages.Bad rest h = faults
-root_by_command t (heritages.Heritage x) rest h = told_map _ h (λ s u e. e)
+root_by_command t (Err e) rest h = faults
+root_by_command t (Ok x) rest h = told_map _ h (λ s u e. e)
 
 root_told : (text t : List ℕ) → RootSized (read_root text t)
 unfolding read_root whole

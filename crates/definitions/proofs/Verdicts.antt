@@ -5,6 +5,7 @@
 --     Taken, root_taken            what is known of an accepted root
 --     records_taken                records that are accepted have room
 -- Assumes nothing.
+use Rattle.std.specs.Prelude.{None, Option, Some}
 use mathlib.Core.Path.{◌≡◌, refl, ap, subst}
 use mathlib.Core.Bool.{Bool, true, false, not, ◌&&◌}
 use mathlib.Core.List.{List, [], ◌++◌}
@@ -14,8 +15,6 @@ use lib.ListN.{length, take, drop, length-append, length-take, length-drop}
 use lib.Seq.{take_at}
 use lib.Dec.{ltb}
 use borrow.Author.Tests.{ltb-false, le-ltb, not-true, not-false}
-use Rattle.text.specs.declared.bytes.Found.{Found}
-use Rattle.text.specs.declared.bytes.Found.TheVariants as found
 use Rattle.tape.specs.declared.refusal.Refusal.{Refusal}
 use Rattle.definitions.specs.declared.state.State.{State}
 use Rattle.definitions.specs.Judging.{Parsed, done, stop, Judged, accepted, refused, refuse, refuse_at, read}
@@ -37,10 +36,10 @@ module _ {A : Type 0} where
   past true r j a e = not_accepted r a e
   past false r j a e = (refl, e)
 
-  pub past_at : (f : Found) (r : ℕ → Refusal) (j : Judged A) (a : A) → refuse_at f r j ≡ accepted a → (f ≡ found.Nothing) × (j ≡ accepted a)
+  pub past_at : (f : Option ℕ) (r : ℕ → Refusal) (j : Judged A) (a : A) → refuse_at f r j ≡ accepted a → (f ≡ None) × (j ≡ accepted a)
   unfolding refuse_at
-  past_at (found.At p) r j a e = not_accepted (r p) a e
-  past_at found.Nothing r j a e = (refl, e)
+  past_at (Some p) r j a e = not_accepted (r p) a e
+  past_at None r j a e = (refl, e)
 
   pub past_read : {B : Type 0} (p : Parsed B) (k : B → Judged A) (a : A) → read p k ≡ accepted a
       → (b : B) × (u : ℕ) × (p ≡ done b u) × (k b ≡ accepted a)

@@ -140,7 +140,7 @@ piece_weighs : (s : Span) → weight (piece s) ≤ 5
 unfolding weight
 piece_weighs s = go (eqb s.len 0)
   where
-    go : (b : Bool) → weight (cond b [] (put_span call.piece s)) ≤ 5
+    go : (b : Bool) → weight (cond b [] (put_span call.Piece s)) ≤ 5
     go true = omega arith
     go false = omega arith
 
@@ -208,23 +208,23 @@ source_weighs c p = either_weighs c.settings.options.flags.source_plugin _ [] 10
 
 self_weighs : (c : Context) → weight (self_output c) ≤ 1
 unfolding self_output weight
-self_weighs c = either_weighs (c.settings.options.flags.self_plugin && c.self_allowed) (put call.self) [] 1 (omega arith) (omega arith)
+self_weighs c = either_weighs (c.settings.options.flags.self_plugin && c.self_allowed) (put call.SelfProperty) [] 1 (omega arith) (omega arith)
 
 static_weighs : (c : Context) (n : ℕ) → weight (static_children c n) ≤ 1
 unfolding static_children weight
 static_weighs c n =
     either_weighs c.settings.options.flags.development _ [] 1
-    (either_weighs (leb 2 n) (put call.literal_true) (put call.literal_false) 1 (omega arith) (omega arith))
+    (either_weighs (leb 2 n) (put call.LiteralTrue) (put call.LiteralFalse) 1 (omega arith) (omega arith))
     (omega arith)
 
 no_key_weighs : (c : Context) → weight (no_key c) ≤ 1
 unfolding no_key weight
-no_key_weighs c = either_weighs c.settings.options.flags.development (put call.void_zero) [] 1 (omega arith) (omega arith)
+no_key_weighs c = either_weighs c.settings.options.flags.development (put call.VoidZero) [] 1 (omega arith) (omega arith)
 
 attribute_name_weighs : (c : Context) (s : Span) → weight (attribute_name c s) ≤ 8
 unfolding attribute_name weight
 attribute_name_weighs c s =
-    either_weighs (is_found (find (eqb 0x2d) (part_of c.text s))) _ (put_span call.name s) 8
+    either_weighs (is_found (find (eqb 0x2d) (part_of c.text s))) _ (put_span call.Name s) 8
     (simp weight_append (omega (arith, piece_weighs s)))
     (omega arith)
 
@@ -246,7 +246,7 @@ carried_weighs (prop_name e s ∷ ps) = omega (arith, carried_weighs ps)
 literal_weighs : (c : Context) (e : ℕ) (ps : List Property) → weight (lower_literal c e ps) ≤ 3 + size_properties ps
 unfolding weight
 literal_weighs c e ps =
-    either_weighs (has_proto c ps) (put_over call.spread_property e) (carried ps) (3 + size_properties ps) (omega arith) (omega (arith, carried_weighs ps))
+    either_weighs (has_proto c ps) (put_over call.SpreadProperty e) (carried ps) (3 + size_properties ps) (omega arith) (omega (arith, carried_weighs ps))
 
 children_weigh : (n form : ℕ) (items : List Output) → weight (children_property n form items) ≤ weight items + 3
 unfolding children_property weight
@@ -262,9 +262,9 @@ unfolding lone_spread_or weight
 lone_weighs c no_attributes os = omega arith
 lone_weighs c (attribute s v a) os = omega arith
 lone_weighs c (namespaced_attribute s r v a) os = omega arith
-lone_weighs c (spread e a) os = either_weighs (is_last a && plugins_off c) (put_over call.sole_spread e) os (weight os + 3) (omega arith) (omega arith)
+lone_weighs c (spread e a) os = either_weighs (is_last a && plugins_off c) (put_over call.SoleSpread e) os (weight os + 3) (omega arith) (omega arith)
 lone_weighs c (literal e ps a) os =
-    either_weighs (is_last a && plugins_off c && not (has_proto c ps)) (put_over call.sole_spread e) os (weight os + 3) (omega arith) (omega arith)
+    either_weighs (is_last a && plugins_off c && not (has_proto c ps)) (put_over call.SoleSpread e) os (weight os + 3) (omega arith) (omega arith)
 
 automatic_weighs : (c : Context) (ps : List Output) (k : Children) (items key added tag : List Output)
     → weight (automatic_call c ps k items key added tag) ≤ weight ps + weight items + weight key + weight added + weight tag + 16
@@ -406,9 +406,9 @@ module _ (c : Context) (price : Span → ℕ) (text_weighs : (s : Span) → weig
         go : (k g : Bool) → weight (lower_value c v) ≤ 4 * size_value v + priced_value price v
             → ((o : List Output) → weight (lower_attributes c false a) + weight (lower_key c a o) ≤ 4 * size_attributes a + priced_attributes price a + weight o)
             → weight (cond (k && g && not false) (lower_attributes c false a) (key_notice c s v ++ attribute_name c s ++ lower_value c v ++ lower_attributes c false a))
-            + weight (lower_key c a (cond (k && g) (put call.key ++ lower_value c v) other))
+            + weight (lower_key c a (cond (k && g) (put call.Key ++ lower_value c v) other))
             ≤ 4 * (5 + size_value v + size_attributes a) + (priced_value price v + priced_attributes price a) + weight other
-        go true true w h = omega (arith, h (put call.key ++ lower_value c v), weight_append (put call.key) (lower_value c v))
+        go true true w h = omega (arith, h (put call.Key ++ lower_value c v), weight_append (put call.Key) (lower_value c v))
         go true false w h = simp weight_append (omega (arith, h other, notice_weighs c s v, attribute_name_weighs c s))
         go false true w h = simp weight_append (omega (arith, h other, notice_weighs c s v, attribute_name_weighs c s))
         go false false w h = simp weight_append (omega (arith, h other, notice_weighs c s v, attribute_name_weighs c s))

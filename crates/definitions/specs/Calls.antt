@@ -4,24 +4,17 @@ use Rattle.text.specs.declared.spans.Span.{Span}
 use Rattle.commands.specs.declared.root.Place.{Place}
 use Rattle.tape.specs.Numbers.{u16_at, span_at, u16_bytes, u32_bytes, span_bytes}
 use Rattle.commands.specs.Root.{place_at}
+pub use Rattle.definitions.specs.declared.call_tape.Bare.{Bare}
+pub use Rattle.definitions.specs.declared.call_tape.Bare.TheVariants.{ObjectBegin, ObjectEnd, StringName, Null, StringBegin, Space, StringEnd, Colon, LiteralTrue, LiteralFalse, VoidZero, This, ChildrenBegin, Key, Tag, Callee, SelfProperty}
+pub use Rattle.definitions.specs.declared.call_tape.WithByte.{WithByte}
+pub use Rattle.definitions.specs.declared.call_tape.WithByte.TheVariants.{Call, Pragma, Member, ChildrenEnd, CallEnd}
+pub use Rattle.definitions.specs.declared.call_tape.WithExpression.{WithExpression}
+pub use Rattle.definitions.specs.declared.call_tape.WithExpression.TheVariants.{SpreadProperty, Carried, SoleSpread, Expression, SpreadItem}
+pub use Rattle.definitions.specs.declared.call_tape.WithSpan.{WithSpan}
+pub use Rattle.definitions.specs.declared.call_tape.WithSpan.TheVariants.{Name, Piece, Identifier, MemberName}
 
--- ---- the commands, by their operands
-
--- no operand
-pub data Bare : Type 0 where
-  object_begin object_end string_name null string_begin space string_end colon literal_true literal_false void_zero this children_begin key tag callee self : Bare
-
--- a u8: "80 01" or "80 00"; "9B form (0 one bare item, 1 array)"; "98 u8 pragma (0 call, 1 fragment)"; "99 name u8"; "A0 pure u8"
-pub data WithByte : Type 0 where
-  call children_end pragma member call_end : WithByte
-
--- an E: "86 E spread", "87 E carried over", "89 E", "94 E", "9C E spread child"
-pub data WithExpression : Type 0 where
-  spread_property carried sole_spread expression spread_item : WithExpression
-
--- an S: "83 S", "8B S", "97 S identifier", "A3 S"
-pub data WithSpan : Type 0 where
-  name piece identifier member_name : WithSpan
+-- ---- the commands, by their operands: none; a u8 ("80 01" or "80 00"; "9B form (0 one bare item, 1 array)"; "98 u8 pragma (0 call, 1 fragment)"; "99 name u8";
+-- "A0 pure u8"); an E ("86 E spread", "87 E carried over", "89 E", "94 E", "9C E spread child"); an S ("83 S", "8B S", "97 S identifier", "A3 S")
 
 -- a command, over what it takes for a binding: "96 binding"; "A1: binding u8, line u32, column u32, both plus one"
 pub data Command (B : Type 0) : Type 0 where
@@ -41,43 +34,43 @@ pub data Notice : Type 0 where
 -- ---- their bytes
 
 unfoldable pub bare_code : Bare → ℕ
-bare_code object_begin = 0x81
-bare_code object_end = 0x82
-bare_code string_name = 0x84
-bare_code null = 0x88
-bare_code string_begin = 0x8a
-bare_code space = 0x8c
-bare_code string_end = 0x8d
-bare_code colon = 0x8e
-bare_code literal_true = 0x90
-bare_code literal_false = 0x91
-bare_code void_zero = 0x92
-bare_code this = 0x93
-bare_code children_begin = 0x9a
-bare_code key = 0x9d
-bare_code tag = 0x9e
-bare_code callee = 0x9f
-bare_code self = 0xa2
+bare_code ObjectBegin = 0x81
+bare_code ObjectEnd = 0x82
+bare_code StringName = 0x84
+bare_code Null = 0x88
+bare_code StringBegin = 0x8a
+bare_code Space = 0x8c
+bare_code StringEnd = 0x8d
+bare_code Colon = 0x8e
+bare_code LiteralTrue = 0x90
+bare_code LiteralFalse = 0x91
+bare_code VoidZero = 0x92
+bare_code This = 0x93
+bare_code ChildrenBegin = 0x9a
+bare_code Key = 0x9d
+bare_code Tag = 0x9e
+bare_code Callee = 0x9f
+bare_code SelfProperty = 0xa2
 
 unfoldable pub byte_code : WithByte → ℕ
-byte_code call = 0x80
-byte_code pragma = 0x98
-byte_code member = 0x99
-byte_code children_end = 0x9b
-byte_code call_end = 0xa0
+byte_code Call = 0x80
+byte_code Pragma = 0x98
+byte_code Member = 0x99
+byte_code ChildrenEnd = 0x9b
+byte_code CallEnd = 0xa0
 
 unfoldable pub expression_code : WithExpression → ℕ
-expression_code spread_property = 0x86
-expression_code carried = 0x87
-expression_code sole_spread = 0x89
-expression_code expression = 0x94
-expression_code spread_item = 0x9c
+expression_code SpreadProperty = 0x86
+expression_code Carried = 0x87
+expression_code SoleSpread = 0x89
+expression_code Expression = 0x94
+expression_code SpreadItem = 0x9c
 
 unfoldable pub span_code : WithSpan → ℕ
-span_code name = 0x83
-span_code piece = 0x8b
-span_code identifier = 0x97
-span_code member_name = 0xa3
+span_code Name = 0x83
+span_code Piece = 0x8b
+span_code Identifier = 0x97
+span_code MemberName = 0xa3
 
 unfoldable pub bytes_of : Command ℕ → List ℕ
 bytes_of (bare c) = bare_code c ∷ []
@@ -118,13 +111,13 @@ lookup c (r ∷ rs) = cond (eqb c r.0) r.1 (lookup c rs)
 
 abbrev pub kinds : List (ℕ × Kind)
 kinds =
-    (0x80, is_byte call) ∷ (0x81, is_bare object_begin) ∷ (0x82, is_bare object_end) ∷ (0x83, is_span name) ∷ (0x84, is_bare string_name)
-    ∷ (0x86, is_over spread_property) ∷ (0x87, is_over carried) ∷ (0x88, is_bare null) ∷ (0x89, is_over sole_spread) ∷ (0x8a, is_bare string_begin)
-    ∷ (0x8b, is_span piece) ∷ (0x8c, is_bare space) ∷ (0x8d, is_bare string_end) ∷ (0x8e, is_bare colon) ∷ (0x90, is_bare literal_true)
-    ∷ (0x91, is_bare literal_false) ∷ (0x92, is_bare void_zero) ∷ (0x93, is_bare this) ∷ (0x94, is_over expression) ∷ (0x96, is_binding)
-    ∷ (0x97, is_span identifier) ∷ (0x98, is_byte pragma) ∷ (0x99, is_byte member) ∷ (0x9a, is_bare children_begin) ∷ (0x9b, is_byte children_end)
-    ∷ (0x9c, is_over spread_item) ∷ (0x9d, is_bare key) ∷ (0x9e, is_bare tag) ∷ (0x9f, is_bare callee) ∷ (0xa0, is_byte call_end)
-    ∷ (0xa1, is_source) ∷ (0xa2, is_bare self) ∷ (0xa3, is_span member_name) ∷ []
+    (0x80, is_byte Call) ∷ (0x81, is_bare ObjectBegin) ∷ (0x82, is_bare ObjectEnd) ∷ (0x83, is_span Name) ∷ (0x84, is_bare StringName)
+    ∷ (0x86, is_over SpreadProperty) ∷ (0x87, is_over Carried) ∷ (0x88, is_bare Null) ∷ (0x89, is_over SoleSpread) ∷ (0x8a, is_bare StringBegin)
+    ∷ (0x8b, is_span Piece) ∷ (0x8c, is_bare Space) ∷ (0x8d, is_bare StringEnd) ∷ (0x8e, is_bare Colon) ∷ (0x90, is_bare LiteralTrue)
+    ∷ (0x91, is_bare LiteralFalse) ∷ (0x92, is_bare VoidZero) ∷ (0x93, is_bare This) ∷ (0x94, is_over Expression) ∷ (0x96, is_binding)
+    ∷ (0x97, is_span Identifier) ∷ (0x98, is_byte Pragma) ∷ (0x99, is_byte Member) ∷ (0x9a, is_bare ChildrenBegin) ∷ (0x9b, is_byte ChildrenEnd)
+    ∷ (0x9c, is_over SpreadItem) ∷ (0x9d, is_bare Key) ∷ (0x9e, is_bare Tag) ∷ (0x9f, is_bare Callee) ∷ (0xa0, is_byte CallEnd)
+    ∷ (0xa1, is_source) ∷ (0xa2, is_bare SelfProperty) ∷ (0xa3, is_span MemberName) ∷ []
 
 -- a command whose operands are the first n bytes of t, before what is read behind them; nothing is read where they are cut off
 abbrev pub taking : ℕ → List ℕ → Command ℕ → (List ℕ → List (Command ℕ)) → List (Command ℕ)

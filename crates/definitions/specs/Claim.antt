@@ -1,9 +1,7 @@
 -- Demand 3 as one claim over a series of roots, accepted and refused in any mix, after an accepted opening.
-use Rattle.std.specs.Prelude.{ℕ, suc, ◌≤◌, ◌<◌, ◌≡◌, Bool, true, false, cond, ◌&&◌, List, [], ◌∷◌, ◌++◌, map, length, eqb}
+use Rattle.std.specs.Prelude.{ℕ, suc, ◌≤◌, ◌<◌, ◌≡◌, Bool, true, false, cond, ◌&&◌, List, [], ◌∷◌, ◌++◌, map, length, eqb, Err, Ok}
 use Rattle.tape.specs.declared.refusal.Refusal.{Refusal}
 use Rattle.definitions.specs.declared.options.Settings.{Settings}
-use Rattle.definitions.specs.declared.state.Answer.TheVariants as answer
-use Rattle.definitions.specs.declared.state.Written.TheVariants as written
 use Rattle.definitions.specs.Judging.{accepted}
 use Rattle.definitions.specs.Opening.{opening_bytes, judge_opening}
 use Rattle.definitions.specs.Calls.{Command, bare, byte, over, span, binding, source, call_bytes, read_calls}
@@ -92,7 +90,7 @@ pub record Kept (text : List ℕ) (s : Settings) (calls notices : List ℕ) (roo
       (target : List ℕ)
       → length (records_tape (series text (opening text s calls notices) roots)) ≤ length target
       → (records_answer (judge_records text (series text (opening text s calls notices) roots).state (length target))
-      ≡ written.Accepted (length (records_tape (series text (opening text s calls notices) roots))))
+      ≡ Ok (length (records_tape (series text (opening text s calls notices) roots))))
       × (records_target target (judge_records text (series text (opening text s calls notices) roots).state (length target))
       ≡ laid 0 (records_tape (series text (opening text s calls notices) roots)) target)
   -- each binding that the calls so far mention has exactly one record
@@ -131,7 +129,7 @@ pub record Kept (text : List ℕ) (s : Settings) (calls notices : List ℕ) (roo
   -- a root that is refused then changes nothing
   pub refused_leaves :
       (tape : List ℕ) (r : Refusal)
-      → (outcome_in text (series text (opening text s calls notices) roots) tape).stepped.answer ≡ answer.Refused r
+      → (outcome_in text (series text (opening text s calls notices) roots) tape).stepped.answer ≡ Err r
       → next text (series text (opening text s calls notices) roots) tape ≡ series text (opening text s calls notices) roots
 
 -- Demand 3: over any targets, after any opening that is accepted there, for any list of roots

@@ -1,12 +1,9 @@
 -- docs/TAPES.md, "Settings": the pragmas of the comments and what they set (comments.rs).
-use Rattle.std.specs.Prelude.{ℕ, zero, suc, ◌+◌, ◌-◌, Bool, true, false, cond, not, ◌&&◌, ◌||◌, List, [], ◌∷◌, length, take, drop, get_or, eqb, leb}
-use Rattle.text.specs.declared.bytes.Found.{Found}
-use Rattle.text.specs.declared.bytes.Found.TheVariants as found
+use Rattle.std.specs.Prelude.{ℕ, zero, suc, ◌+◌, ◌-◌, Bool, true, false, cond, not, ◌&&◌, ◌||◌, List, [], ◌∷◌, length, take, drop, get_or, eqb, leb, None, Option, Some}
 use Rattle.text.specs.declared.spans.Span.{Span}
 use Rattle.text.specs.Bytes.{ascii, same, find_from}
 use Rattle.text.specs.Spans.{part_of}
 use Rattle.definitions.specs.declared.options.Flags.{Flags}
-use Rattle.definitions.specs.declared.options.Optional.TheVariants.{Present}
 use Rattle.definitions.specs.declared.options.Options.{Options}
 
 -- ---- the bytes that the search tells apart
@@ -27,13 +24,13 @@ abbrev pub is_white : ℕ → Bool
 is_white b = (leb 0x09 b && leb b 0x0d) || eqb b 0x20
 
 -- the place of the first byte that passes the test, from a place of the list on
-abbrev pub place_from : (ℕ → Bool) → List ℕ → ℕ → Found
+abbrev pub place_from : (ℕ → Bool) → List ℕ → ℕ → Option ℕ
 place_from p l i = find_from p i (drop i l)
 
 -- a place that was found, or else the one given
-unfoldable pub or_else : ℕ → Found → ℕ
-or_else n (found.At i) = i
-or_else n found.Nothing = n
+unfoldable pub or_else : ℕ → Option ℕ → ℕ
+or_else n (Some i) = i
+or_else n None = n
 
 -- ---- `find_jsx_pragma`: the next pragma of a comment c. What is left of it begins at `i`.
 
@@ -66,14 +63,14 @@ on_keyword import_source next go = pragma import_source next
 on_keyword runtime next go = pragma runtime next
 
 -- "The keyword is what follows `@jsx`, up to the next space or tab; none there ends the search."
-unfoldable pub on_word : List ℕ → ℕ → Found → (ℕ → Search) → Search
-on_word c w (found.At e) go = on_keyword (keyword_of (take (e - w) (drop w c))) (e + 1) go
-on_word c w found.Nothing go = nothing
+unfoldable pub on_word : List ℕ → ℕ → Option ℕ → (ℕ → Search) → Search
+on_word c w (Some e) go = on_keyword (keyword_of (take (e - w) (drop w c))) (e + 1) go
+on_word c w None go = nothing
 
 -- "A rejected @ is dropped and the search goes on right after it, in the shortened rest."
-unfoldable pub on_sign : List ℕ → ℕ → Found → (ℕ → Search) → Search
-on_sign c i found.Nothing go = nothing
-on_sign c i (found.At sign) go =
+unfoldable pub on_sign : List ℕ → ℕ → Option ℕ → (ℕ → Search) → Search
+on_sign c i None go = nothing
+on_sign c i (Some sign) go =
     cond (counts c i sign) (on_word c (sign + 4) (place_from is_blank c (sign + 4)) go) (go (sign + 1))
 
 -- each turn goes on at a later place, so as many turns as the comment has bytes do
@@ -116,27 +113,27 @@ unfoldable pub applied : Options → Keyword → Span → List ℕ → Options
 applied o jsx s v =
     record {
       flags = o.flags;
-      pragma = cond (sets_pair o.flags) (Present s) o.pragma;
+      pragma = cond (sets_pair o.flags) (Some s) o.pragma;
       pragma_frag = o.pragma_frag;
       import_source = o.import_source;
-      ts_pragma = Present s;
+      ts_pragma = Some s;
       ts_pragma_frag = o.ts_pragma_frag;
     }
 applied o frag s v =
     record {
       flags = o.flags;
       pragma = o.pragma;
-      pragma_frag = cond (sets_pair o.flags) (Present s) o.pragma_frag;
+      pragma_frag = cond (sets_pair o.flags) (Some s) o.pragma_frag;
       import_source = o.import_source;
       ts_pragma = o.ts_pragma;
-      ts_pragma_frag = Present s;
+      ts_pragma_frag = Some s;
     }
 applied o import_source s v =
     record {
       flags = o.flags;
       pragma = o.pragma;
       pragma_frag = o.pragma_frag;
-      import_source = Present s;
+      import_source = Some s;
       ts_pragma = o.ts_pragma;
       ts_pragma_frag = o.ts_pragma_frag;
     }

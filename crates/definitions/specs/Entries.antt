@@ -1,16 +1,13 @@
 -- docs/TAPES.md, "Refusals": what each entry answers, the state that it returns and what every target holds after, refused or not.
-use Rattle.std.specs.Prelude.{ℕ, suc, ◌+◌, ◌-◌, not, ◌||◌, List, [], ◌∷◌, ◌++◌, length, take, drop, replicate, ltb}
+use Rattle.std.specs.Prelude.{ℕ, suc, ◌+◌, ◌-◌, not, ◌||◌, List, [], ◌∷◌, ◌++◌, length, take, drop, replicate, ltb, Err, None, Ok, Result}
+use Rattle.tape.specs.declared.refusal.Refusal.{Refusal}
 use Rattle.tape.specs.declared.refusal.Refusal.TheVariants as refusal
-use Rattle.definitions.specs.declared.options.Optional.TheVariants.{Absent}
 use Rattle.definitions.specs.declared.options.Settings.{Settings}
 use Rattle.definitions.specs.declared.records.Import.{Import}
 use Rattle.definitions.specs.declared.records.Import.TheVariants.{FileName}
 use Rattle.definitions.specs.declared.records.Record.{Record}
 use Rattle.definitions.specs.declared.state.State.{State}
-use Rattle.definitions.specs.declared.state.Answer.TheVariants as answer
 use Rattle.definitions.specs.declared.state.Stepped.{Stepped}
-use Rattle.definitions.specs.declared.state.Written.{Written}
-use Rattle.definitions.specs.declared.state.Written.TheVariants as written
 use Rattle.definitions.specs.Judging.{Judged, accepted, refused, refuse, too_long, read, judge_state}
 use Rattle.definitions.specs.Options.{flags_of}
 use Rattle.definitions.specs.Opening.{opening_bytes, judge_opening, settings_of}
@@ -40,7 +37,7 @@ abbrev pub no_job : State
 no_job =
     record {
       settings =
-          settings_of [] (record { flags = flags_of 0; pragma = Absent; pragma_frag = Absent; import_source = Absent; ts_pragma = Absent; ts_pragma_frag = Absent });
+          settings_of [] (record { flags = flags_of 0; pragma = None; pragma_frag = None; import_source = None; ts_pragma = None; ts_pragma_frag = None });
       records = replicate 8 no_record;
       count = 9;
       calls = 0;
@@ -55,8 +52,8 @@ pub record OpeningOutcome : Type 0 where
 -- an accepted opening writes from the target's start; a refused one leaves it as it was
 unfoldable pub opened_by : List ℕ → List ℕ → Judged Settings → OpeningOutcome
 opened_by text notices (accepted s) =
-    record { stepped = record { answer = answer.Accepted; state = open_state text s }; notices = laid 0 (opening_bytes text s) notices }
-opened_by text notices (refused r) = record { stepped = record { answer = answer.Refused r; state = no_job }; notices = notices }
+    record { stepped = record { answer = Ok tt; state = open_state text s }; notices = laid 0 (opening_bytes text s) notices }
+opened_by text notices (refused r) = record { stepped = record { answer = Err r; state = no_job }; notices = notices }
 
 -- opening a job over a notice target
 unfoldable pub opened : List ℕ → List ℕ → List ℕ → OpeningOutcome
@@ -119,12 +116,12 @@ pub record Outcome : Type 0 where
 unfoldable pub outcome_by : State → List ℕ → List ℕ → Judged Lowered → Outcome
 outcome_by s calls notices (accepted l) =
     record {
-      stepped = record { answer = answer.Accepted; state = moved s l };
+      stepped = record { answer = Ok tt; state = moved s l };
       calls = laid s.calls l.calls calls;
       notices = laid s.notices l.notices notices;
     }
 outcome_by s calls notices (refused r) =
-    record { stepped = record { answer = answer.Refused r; state = s }; calls = calls; notices = notices }
+    record { stepped = record { answer = Err r; state = s }; calls = calls; notices = notices }
 
 -- lowering a root over the two targets
 unfoldable pub root_outcome : List ℕ → State → List ℕ → List ℕ → List ℕ → Outcome
@@ -144,9 +141,9 @@ judge_writing text s rest = judge_state (too_long text) text (not (sound text s)
 unfoldable pub judge_records : List ℕ → State → ℕ → Judged (List ℕ)
 judge_records text s room = judge_writing text s (judge_tape (record_tape s.settings.mode (live s)) room)
 
-unfoldable pub records_answer : Judged (List ℕ) → Written
-records_answer (accepted t) = written.Accepted (length t)
-records_answer (refused r) = written.Refused r
+unfoldable pub records_answer : Judged (List ℕ) → Result ℕ Refusal
+records_answer (accepted t) = Ok (length t)
+records_answer (refused r) = Err r
 
 unfoldable pub records_target : List ℕ → Judged (List ℕ) → List ℕ
 records_target target (accepted t) = laid 0 t target

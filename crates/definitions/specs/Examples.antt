@@ -1,21 +1,18 @@
 -- The specification's "Sheets to try", the proved set, and how open places were read: two tables, each closed by one claim that is computed from the definitions
 -- (proofs/Examples).
-use Rattle.std.specs.Prelude.{ℕ, ◌+◌, ◌*◌, ◌-◌, ◌≡◌, cond, List, [], ◌∷◌, ◌++◌, map, length, eqb, leb}
+use Rattle.std.specs.Prelude.{ℕ, ◌+◌, ◌*◌, ◌-◌, ◌≡◌, cond, List, [], ◌∷◌, ◌++◌, map, length, eqb, leb, Err, None, Ok, Option, Result, Some, ⊤}
+use Rattle.tape.specs.declared.refusal.Refusal.{Refusal}
 use Prim.Native.String.{String}
 use Rattle.text.specs.declared.spans.Span.{Span}
 use Rattle.text.specs.Bytes.{ascii}
 use Rattle.text.specs.Spans.{part_of}
 use Rattle.tape.specs.Refusals.{number_of, figure_of}
-use Rattle.definitions.specs.declared.options.Optional.{Optional}
-use Rattle.definitions.specs.declared.options.Optional.TheVariants.{Absent, Present}
 use Rattle.definitions.specs.declared.options.PragmaRoot.TheVariants as root
-use Rattle.definitions.specs.declared.options.PragmaRead.{PragmaRead}
-use Rattle.definitions.specs.declared.options.PragmaRead.TheVariants.{Valid, Invalid}
+use Rattle.definitions.specs.declared.options.Form.{Form}
+use Rattle.definitions.specs.declared.options.InvalidPart.{InvalidPart}
 use Rattle.definitions.specs.declared.options.Settings.{Settings}
-use Rattle.definitions.specs.declared.state.Answer.{Answer}
-use Rattle.definitions.specs.declared.state.Answer.TheVariants as answer
 use Rattle.definitions.specs.Judging.{Judged, accepted, refused}
-use Rattle.definitions.specs.Pragmas.{pragma_of}
+use Rattle.definitions.specs.Pragmas.{failing, pragma_of}
 use Rattle.definitions.specs.Opening.{judge_opening}
 use Rattle.definitions.specs.JsxText.{jsx_text}
 use Rattle.definitions.specs.Calls.{Command, bare, byte, over, span, binding, source, read_calls, bare_code, span_code, call_bytes}
@@ -55,8 +52,8 @@ pub data Question : Type 0 where
 -- an opening, or its refusal and the target
 pub data Reply : Type 0 where
   string : List ℕ → List ℕ → Reply
-  pairs : Optional → Optional → Optional → Optional → Reply
-  reads : PragmaRead → Reply
+  pairs : Option Span → Option Span → Option Span → Option Span → Reply
+  reads : Result Form InvalidPart → Reply
   noticed : ℕ → List ℕ → Reply
   refused_over : ℕ → ℕ → List ℕ → Reply
   output : Printed → Reply
@@ -70,9 +67,9 @@ unfoldable pub pairs_of : Judged Settings → Reply
 pairs_of (accepted s) = pairs s.options.pragma s.options.pragma_frag s.options.ts_pragma s.options.ts_pragma_frag
 pairs_of (refused r) = turned_away
 
-unfoldable pub opening_reply : Answer → ℕ → List ℕ → Reply
-opening_reply answer.Accepted fill target = noticed fill target
-opening_reply (answer.Refused r) fill target = refused_over (number_of r) (figure_of r) target
+unfoldable pub opening_reply : Result ⊤ Refusal → ℕ → List ℕ → Reply
+opening_reply (Ok tt) fill target = noticed fill target
+opening_reply (Err r) fill target = refused_over (number_of r) (figure_of r) target
 
 -- the bytes of a text child that is all of the text
 abbrev pub string_bytes : List ℕ → List ℕ
@@ -121,14 +118,14 @@ table =
     -- "\" a LF b \" with single spaces gives \" a b \"": " a", a space, "b ". Wrong port: trimming the first line's front
     ∷ (string_in (ascii " a \n b ") gives string (hex "8a 8b 00 00 02 00 8c 8b 05 00 02 00 8d") (ascii " a b "))
     -- "comment `a@@jsx h`: pragma h"
-    ∷ (pairs_in (ascii "a@@jsx h") gives pairs (Present (at 7 1)) Absent (Present (at 7 1)) Absent)
+    ∷ (pairs_in (ascii "a@@jsx h") gives pairs (Some (at 7 1)) None (Some (at 7 1)) None)
     -- "`@jsx `, LF, `@jsxFrag f`: neither set"
-    ∷ (pairs_in (ascii "@jsx \n@jsxFrag f") gives pairs Absent Absent Absent Absent)
+    ∷ (pairs_in (ascii "@jsx \n@jsxFrag f") gives pairs None None None None)
     -- "`h.class` valid; `import` and `a..b` invalid; `this` valid"
-    ∷ (pragma_is (ascii "h.class") gives reads (Valid (record { root = root.Identifier; tail = 1 })))
-    ∷ (pragma_is (ascii "import") gives reads (Invalid 0 6))
-    ∷ (pragma_is (ascii "a..b") gives reads (Invalid 2 0))
-    ∷ (pragma_is (ascii "this") gives reads (Valid (record { root = root.This; tail = 0 })))
+    ∷ (pragma_is (ascii "h.class") gives reads (Ok (record { root = root.Identifier; tail = 1 })))
+    ∷ (pragma_is (ascii "import") gives reads (failing 0 6))
+    ∷ (pragma_is (ascii "a..b") gives reads (failing 2 0))
+    ∷ (pragma_is (ascii "this") gives reads (Ok (record { root = root.This; tail = 0 })))
     -- "Automatic, not development, sole spread child: array, callee jsx." Wrong port: jsxs for a sole spread
     ∷ (prints (hex "61 81 00") (ascii "a") (hex "01 00 02 03 10 00 00 00 00 00 00 00 00 20 00 00 01 00 1e 51 05 00 1f")
     gives output (printed
@@ -252,16 +249,16 @@ readings =
     ∷ (prints (hex "61 09 00 62 00 00 00 00 63 01 00 01 00 60 00 00 03 00") (hex "c3 a9") (hex "")
     gives output (refused_with 13 8))
     -- the first part of a pragma that fails. For `import` without `meta` next it is the root
-    ∷ (pragma_is (ascii "h..x") gives reads (Invalid 2 0))
-    ∷ (pragma_is (ascii "import.x") gives reads (Invalid 0 6))
-    ∷ (pragma_is (ascii "import.") gives reads (Invalid 0 6))
-    ∷ (pragma_is (ascii "import.meta") gives reads (Valid (record { root = root.ImportMeta; tail = 0 })))
-    ∷ (pragma_is (ascii "import.meta.") gives reads (Invalid 12 0))
-    ∷ (pragma_is (ascii "import.meta.h.1x") gives reads (Invalid 14 2))
-    ∷ (pragma_is (ascii ".") gives reads (Invalid 0 0))
-    ∷ (pragma_is (ascii "class.h") gives reads (Invalid 0 5))
-    ∷ (pragma_is (ascii "h.1x.2y") gives reads (Invalid 2 2))
-    ∷ (pragma_is [] gives reads (Invalid 0 0))
+    ∷ (pragma_is (ascii "h..x") gives reads (failing 2 0))
+    ∷ (pragma_is (ascii "import.x") gives reads (failing 0 6))
+    ∷ (pragma_is (ascii "import.") gives reads (failing 0 6))
+    ∷ (pragma_is (ascii "import.meta") gives reads (Ok (record { root = root.ImportMeta; tail = 0 })))
+    ∷ (pragma_is (ascii "import.meta.") gives reads (failing 12 0))
+    ∷ (pragma_is (ascii "import.meta.h.1x") gives reads (failing 14 2))
+    ∷ (pragma_is (ascii ".") gives reads (failing 0 0))
+    ∷ (pragma_is (ascii "class.h") gives reads (failing 0 5))
+    ∷ (pragma_is (ascii "h.1x.2y") gives reads (failing 2 2))
+    ∷ (pragma_is [] gives reads (failing 0 0))
     -- C2 comes before the root's notices
     ∷ (prints (hex "61 08 00 62 00 00 04 00") (ascii "h..xkey") (hex "01 00 02 03 10 00 00 00 00 00 00 00 00 22 30 04 00 03 00 40 1e 1f")
     gives output (printed (hex "80 00 81 83 04 00 03 00 90 82 9e 93 9f 98 00 a0 00") (hex "c2 02 00 00 00 c0 04 00 03 00") []))

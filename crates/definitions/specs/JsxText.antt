@@ -3,7 +3,7 @@
 use Rattle.std.specs.Prelude.{ℕ, zero, suc, ◌+◌, ◌-◌, cond, List, [], ◌∷◌}
 use Rattle.text.specs.declared.spans.Span.{Span}
 use Rattle.text.specs.Utf8.{width}
-use Rattle.text.specs.Chars.{char_of, is_white_space, is_line_terminator}
+use Rattle.text.specs.Chars.{front_code, is_white_space, is_line_terminator}
 use Rattle.text.specs.Spans.{part_of}
 use Rattle.definitions.specs.Pragmas.{onto}
 
@@ -17,7 +17,7 @@ pub record Placed : Type 0 where
 unfoldable pub chars_from : ℕ → ℕ → List ℕ → List Placed
 chars_from n at [] = []
 chars_from zero at (b ∷ l) =
-    record { at = at; code = (char_of (b ∷ l)).code; next = at + width (b ∷ l) } ∷ chars_from (width (b ∷ l) - 1) (suc at) l
+    record { at = at; code = front_code (b ∷ l); next = at + width (b ∷ l) } ∷ chars_from (width (b ∷ l) - 1) (suc at) l
 chars_from (suc n) at (b ∷ l) = chars_from n (suc at) l
 
 -- the lines, without what ends them

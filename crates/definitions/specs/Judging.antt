@@ -1,7 +1,5 @@
 -- How readings and refusals are put together.
-use Rattle.std.specs.Prelude.{ℕ, ◌+◌, Bool, true, false, List, length, ltb}
-use Rattle.text.specs.declared.bytes.Found.{Found}
-use Rattle.text.specs.declared.bytes.Found.TheVariants as found
+use Rattle.std.specs.Prelude.{ℕ, ◌+◌, Bool, true, false, List, length, ltb, None, Option, Some}
 use Rattle.text.specs.declared.spans.Bounds.{Bounds}
 use Rattle.text.specs.declared.spans.Bounds.TheVariants.{Outside, Cuts, Empty, Good}
 use Rattle.text.specs.Utf8.{first_ill}
@@ -10,6 +8,8 @@ use Rattle.tape.specs.declared.refusal.Fault.{Fault}
 use Rattle.tape.specs.declared.refusal.Fault.TheVariants as fault
 use Rattle.tape.specs.declared.refusal.Refusal.{Refusal}
 use Rattle.tape.specs.declared.refusal.Refusal.TheVariants as refusal
+use Rattle.commands.specs.declared.error.CommandError.{CommandError}
+use Rattle.commands.specs.declared.error.CommandError.TheVariants as command
 
 -- ---- reading a tape
 
@@ -36,9 +36,14 @@ from u (stop f p) = stop f (u + p)
 abbrev pub wrong : {A : Type 0} → Parsed A
 wrong = stop fault.Grammar 0
 
--- operands cut off, or the tape's end: the length of what is left
-abbrev pub cut : {A : Type 0} → List ℕ → Parsed A
-cut t = stop fault.Grammar (length t)
+-- where a command that can't be read is told: operands cut off, or the tape's end, behind what is left; anything else at the command
+abbrev pub error_place : List ℕ → CommandError → ℕ
+error_place t command.Wrong = 0
+error_place t command.Cut = length t
+error_place t command.Bad = 0
+
+abbrev pub unreadable : {A : Type 0} → List ℕ → CommandError → Parsed A
+unreadable t e = stop fault.Grammar (error_place t e)
 
 -- what follows a command whose span is in order; the span may be empty
 unfoldable pub spanned : {A : Type 0} → Bounds → Parsed A → Parsed A
@@ -84,9 +89,9 @@ abbrev pub too_long : List ℕ → Bool
 too_long l = ltb max_length (length l)
 
 -- a search that refuses where it finds something
-unfoldable pub refuse_at : {A : Type 0} → Found → (ℕ → Refusal) → Judged A → Judged A
-refuse_at (found.At p) r j = refused (r p)
-refuse_at found.Nothing r j = j
+unfoldable pub refuse_at : {A : Type 0} → Option ℕ → (ℕ → Refusal) → Judged A → Judged A
+refuse_at (Some p) r j = refused (r p)
+refuse_at None r j = j
 
 -- the tape's first fault refuses
 unfoldable pub read : {A B : Type 0} → Parsed A → (A → Judged B) → Judged B

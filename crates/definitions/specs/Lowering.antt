@@ -1,8 +1,6 @@
 -- docs/TAPES.md, "Call tape" and "Grammar": the calls that a tree becomes and the notices on the way (jsx_impl.rs, jsx_self.rs, jsx_source.rs). A command names a binding
 -- by what it is; numbers come later.
-use Rattle.std.specs.Prelude.{ℕ, suc, ◌+◌, Bool, true, false, cond, not, ◌&&◌, ◌||◌, List, [], ◌∷◌, ◌++◌, eqb, leb}
-use Rattle.text.specs.declared.bytes.Found.{Found}
-use Rattle.text.specs.declared.bytes.Found.TheVariants as found
+use Rattle.std.specs.Prelude.{ℕ, suc, ◌+◌, Bool, true, false, cond, not, ◌&&◌, ◌||◌, List, [], ◌∷◌, ◌++◌, eqb, leb, None, Option, Some}
 use Rattle.text.specs.declared.spans.Span.{Span}
 use Rattle.text.specs.Bytes.{ascii, same, find}
 use Rattle.text.specs.Spans.{part_of}
@@ -50,40 +48,40 @@ put_binding i = emit (binding i) ∷ []
 -- ---- strings: "8A, pieces, 8D string (8B S, 8C space, 8E colon; an empty S is no piece)"
 
 abbrev pub piece : Span → List Output
-piece s = cond (eqb s.len 0) [] (put_span call.piece s)
+piece s = cond (eqb s.len 0) [] (put_span call.Piece s)
 
 abbrev pub quoted : List Output → List Output
-quoted ps = put call.string_begin ++ ps ++ put call.string_end
+quoted ps = put call.StringBegin ++ ps ++ put call.StringEnd
 
 -- "lines join by one space"
 unfoldable pub joined : List Span → List Output
 joined [] = []
 joined (s ∷ []) = piece s
-joined (s ∷ r ∷ rs) = piece s ++ put call.space ++ joined (r ∷ rs)
+joined (s ∷ r ∷ rs) = piece s ++ put call.Space ++ joined (r ∷ rs)
 
 -- a namespaced name
 abbrev pub colonized : Span → Span → List Output
-colonized s r = quoted (piece s ++ put call.colon ++ piece r)
+colonized s r = quoted (piece s ++ put call.Colon ++ piece r)
 
 -- ---- names and expressions
 
 unfoldable pub members : List Span → List Output
 members [] = []
-members (s ∷ ss) = put_span call.member_name s ++ members ss
+members (s ∷ ss) = put_span call.MemberName s ++ members ss
 
 -- `transform_element_name`
 unfoldable pub lower_name : Context → Name → List Output
 lower_name c (tree.plain s) = quoted (piece s)
-lower_name c (tree.identifier s ms) = put_span call.identifier s ++ members ms
-lower_name c (tree.this ms) = put call.this ++ members ms
+lower_name c (tree.identifier s ms) = put_span call.Identifier s ++ members ms
+lower_name c (tree.this ms) = put call.This ++ members ms
 lower_name c (tree.namespaced s r) =
     cond c.settings.options.flags.throw_if_namespace (notify (namespaced_tag s r) ∷ []) [] ++ colonized s r
 
 -- a name of one of the two sources: "96 binding in a module, 96 binding 99 name in a script"
 unfoldable pub imported : Mode → ℕ → ℕ → List Output
 imported Module n k = put_binding (Named (source_of n) n)
-imported Script n k = put_binding (Default (source_of n)) ++ put_byte call.member n
-imported Classic n k = put_byte call.pragma k
+imported Script n k = put_binding (Default (source_of n)) ++ put_byte call.Member n
+imported Classic n k = put_byte call.Pragma k
 
 -- `get_create_element`: "A callee is 98 00 in classic settings"
 abbrev pub callee_named : Mode → ℕ → List Output
@@ -118,21 +116,21 @@ has_proto c (p ∷ ps) = is_proto c p || has_proto c ps
 -- "87 E carried over from any other literal"
 unfoldable pub carried : List Property → List Output
 carried [] = []
-carried (unnamed e ∷ ps) = put_over call.carried e ++ carried ps
-carried (prop_name e s ∷ ps) = put_over call.carried e ++ carried ps
+carried (unnamed e ∷ ps) = put_over call.Carried e ++ carried ps
+carried (prop_name e s ∷ ps) = put_over call.Carried e ++ carried ps
 
 -- "86 E spread, also for a literal that has `__proto__`"
 abbrev pub lower_literal : Context → ℕ → List Property → List Output
-lower_literal c e ps = cond (has_proto c ps) (put_over call.spread_property e) (carried ps)
+lower_literal c e ps = cond (has_proto c ps) (put_over call.SpreadProperty e) (carried ps)
 
-unfoldable pub is_found : Found → Bool
-is_found (found.At p) = true
-is_found found.Nothing = false
+unfoldable pub is_found : Option ℕ → Bool
+is_found (Some p) = true
+is_found None = false
 
 -- `get_attribute_name`: "83 S, or 84 and a string where the name has a hyphen or is namespaced"
 unfoldable pub attribute_name : Context → Span → List Output
 attribute_name c s =
-    cond (is_found (find (eqb 0x2d) (part_of c.text s))) (put call.string_name ++ quoted (piece s)) (put_span call.name s)
+    cond (is_found (find (eqb 0x2d) (part_of c.text s))) (put call.StringName ++ quoted (piece s)) (put_span call.Name s)
 
 -- C0 for a key without value
 unfoldable pub key_notice : Context → Span → Value → List Output
@@ -175,7 +173,7 @@ form_of n spreads = cond (eqb n 1 && not spreads) 0 1
 
 -- "any children as 9A items 9B form"
 unfoldable pub children_property : ℕ → ℕ → List Output → List Output
-children_property n form items = cond (eqb n 0) [] (put call.children_begin ++ items ++ put_byte call.children_end form)
+children_property n form items = cond (eqb n 0) [] (put call.ChildrenBegin ++ items ++ put_byte call.ChildrenEnd form)
 
 -- a text child: nothing, or a string of its lines
 unfoldable pub lower_text : List Span → List Output
@@ -193,18 +191,18 @@ source_output c p =
 
 -- `__self`: "A2 (`this`) if self plugin and self allowed"
 unfoldable pub self_output : Context → List Output
-self_output c = cond (c.settings.options.flags.self_plugin && c.self_allowed) (put call.self) []
+self_output c = cond (c.settings.options.flags.self_plugin && c.self_allowed) (put call.SelfProperty) []
 
 abbrev pub development : Context → Bool
 development c = c.settings.options.flags.development
 
 -- "90 or 91 (true, false: two or more children) in development"
 unfoldable pub static_children : Context → ℕ → List Output
-static_children c n = cond (development c) (cond (leb 2 n) (put call.literal_true) (put call.literal_false)) []
+static_children c n = cond (development c) (cond (leb 2 n) (put call.LiteralTrue) (put call.LiteralFalse)) []
 
 -- "or 92 (void 0) in development"
 unfoldable pub no_key : Context → List Output
-no_key c = cond (development c) (put call.void_zero) []
+no_key c = cond (development c) (put call.VoidZero) []
 
 -- ---- calls
 
@@ -219,7 +217,7 @@ pure_byte p = cond p 1 0
 -- "9E tag; 9F callee; A0 pure u8"
 abbrev pub closing : Context → List Output → ℕ → List Output
 closing c tag n =
-    put call.tag ++ tag ++ put call.callee ++ callee_named c.settings.mode n ++ put_byte call.call_end (pure_byte c.settings.pure)
+    put call.Tag ++ tag ++ put call.Callee ++ callee_named c.settings.mode n ++ put_byte call.CallEnd (pure_byte c.settings.pure)
 
 -- the callee of an automatic call, by its number of children
 unfoldable pub automatic_name : Context → ℕ → ℕ
@@ -229,11 +227,11 @@ automatic_name c n = cond (development c) jsx_dev (cond (leb 2 n) jsxs jsx)
 -- elements only, A1 if source plugin, then A2 if self plugin and self allowed; 9E tag; 9F callee; A0 pure u8"
 unfoldable pub automatic_call : Context → List Output → Children → List Output → List Output → List Output → List Output → List Output
 automatic_call c properties k items key added tag =
-    put_byte call.call 1
-    ++ put call.object_begin
+    put_byte call.Call 1
+    ++ put call.ObjectBegin
     ++ properties
     ++ children_property (survivors c k) (form_of (survivors c k) (has_spread k)) items
-    ++ put call.object_end
+    ++ put call.ObjectEnd
     ++ key
     ++ static_children c (survivors c k)
     ++ added
@@ -241,12 +239,12 @@ automatic_call c properties k items key added tag =
 
 -- "object, 88 (null)": the object of some properties, else null
 unfoldable pub object_of : List Output → List Output
-object_of [] = put call.null
-object_of (o ∷ os) = put call.object_begin ++ (o ∷ os) ++ put call.object_end
+object_of [] = put call.Null
+object_of (o ∷ os) = put call.ObjectBegin ++ (o ∷ os) ++ put call.ObjectEnd
 
 -- "80 00; object, 88 (null) or 89 E; children; 9E; 9F; A0"
 unfoldable pub classic_call : Context → List Output → List Output → List Output → List Output
-classic_call c argument items tag = put_byte call.call 0 ++ argument ++ items ++ closing c tag create_element
+classic_call c argument items tag = put_byte call.Call 0 ++ argument ++ items ++ closing c tag create_element
 
 abbrev pub plugins_off : Context → Bool
 plugins_off c = not (c.settings.options.flags.self_plugin || c.settings.options.flags.source_plugin)
@@ -263,8 +261,8 @@ unfoldable pub lone_spread_or : Context → Attributes → List Output → List 
 lone_spread_or c no_attributes object = object
 lone_spread_or c (attribute s v a) object = object
 lone_spread_or c (namespaced_attribute s r v a) object = object
-lone_spread_or c (spread e a) object = cond (is_last a && plugins_off c) (put_over call.sole_spread e) object
-lone_spread_or c (literal e ps a) object = cond (is_last a && plugins_off c && not (has_proto c ps)) (put_over call.sole_spread e) object
+lone_spread_or c (spread e a) object = cond (is_last a && plugins_off c) (put_over call.SoleSpread e) object
+lone_spread_or c (literal e ps a) object = cond (is_last a && plugins_off c && not (has_proto c ps)) (put_over call.SoleSpread e) object
 
 -- "A key after a spread (32 or 33) makes an element's call classic"
 abbrev pub classic_element : Context → Attributes → Bool
@@ -299,33 +297,33 @@ unfoldable mutual
       (lower_attributes c classic a)
       (key_notice c s v ++ attribute_name c s ++ lower_value c v ++ lower_attributes c classic a)
   lower_attributes c classic (namespaced_attribute s r v a) =
-      put call.string_name ++ colonized s r ++ lower_value c v ++ lower_attributes c classic a
-  lower_attributes c classic (spread e a) = put_over call.spread_property e ++ lower_attributes c classic a
+      put call.StringName ++ colonized s r ++ lower_value c v ++ lower_attributes c classic a
+  lower_attributes c classic (spread e a) = put_over call.SpreadProperty e ++ lower_attributes c classic a
   lower_attributes c classic (literal e ps a) = lower_literal c e ps ++ lower_attributes c classic a
 
   -- "Among automatic keys the last value counts, lowered after the children; earlier ones are never lowered.": the last key's value, or what is given
   pub lower_key : Context → Attributes → List Output → List Output
   lower_key c no_attributes other = other
-  lower_key c (attribute s v a) other = lower_key c a (cond (is_key c s && has_value v) (put call.key ++ lower_value c v) other)
+  lower_key c (attribute s v a) other = lower_key c a (cond (is_key c s && has_value v) (put call.Key ++ lower_value c v) other)
   lower_key c (namespaced_attribute s r v a) other = lower_key c a other
   lower_key c (spread e a) other = lower_key c a other
   lower_key c (literal e ps a) other = lower_key c a other
 
   -- `transform_jsx_attribute_value`: "90 for 40 and 43"
   pub lower_value : Context → Value → List Output
-  lower_value c absent = put call.literal_true
+  lower_value c absent = put call.LiteralTrue
   lower_value c (string s) = quoted (piece s)
-  lower_value c (expression e) = put_over call.expression e
-  lower_value c empty = put call.literal_true
+  lower_value c (expression e) = put_over call.Expression e
+  lower_value c empty = put call.LiteralTrue
   lower_value c (node_value n) = lower_node c n
 
   -- `transform_jsx_child`: "a child 43 gives nothing"
   pub lower_children : Context → Children → List Output
   lower_children c no_children = []
   lower_children c (text_child s k) = lower_text (jsx_text c.text s) ++ lower_children c k
-  lower_children c (expression_child e k) = put_over call.expression e ++ lower_children c k
+  lower_children c (expression_child e k) = put_over call.Expression e ++ lower_children c k
   lower_children c (empty_child k) = lower_children c k
-  lower_children c (spread_child e k) = put_over call.spread_item e ++ lower_children c k
+  lower_children c (spread_child e k) = put_over call.SpreadItem e ++ lower_children c k
   lower_children c (node_child n k) = lower_node c n ++ lower_children c k
 
 -- ---- a root

@@ -1,27 +1,21 @@
 -- docs/TAPES.md, "Opening tape" and "Settings": the opening tape, the settings and the notices that it gives, and which openings are refused.
-use Rattle.std.specs.Prelude.{ℕ, zero, suc, ◌+◌, Bool, true, false, cond, ◌&&◌, ◌||◌, List, [], ◌∷◌, ◌++◌, length, drop, ltb}
-use Rattle.text.specs.declared.bytes.Found.{Found}
-use Rattle.text.specs.declared.bytes.Found.TheVariants as found
+use Rattle.std.specs.Prelude.{ℕ, zero, suc, ◌+◌, Bool, true, false, cond, ◌&&◌, ◌||◌, List, [], ◌∷◌, ◌++◌, length, drop, ltb, None, Option, Some, Result, Ok, Err}
 use Rattle.text.specs.declared.spans.Span.{Span}
 use Rattle.text.specs.Bytes.{ascii, find, over_ascii}
 use Rattle.text.specs.Spans.{part_of, bounds_of}
-use Rattle.commands.specs.declared.opening.FlagsCommand.{FlagsCommand}
-use Rattle.commands.specs.declared.opening.FlagsCommand.TheVariants as flags
+use Rattle.commands.specs.declared.error.CommandError.{CommandError}
 use Rattle.commands.specs.declared.opening.OptionCommand.{OptionCommand}
 use Rattle.commands.specs.declared.opening.OptionCommand.TheVariants as option
 use Rattle.tape.specs.declared.refusal.Refusal.TheVariants as refusal
 use Rattle.commands.specs.Opening.{flags_command, option_command}
-use Rattle.definitions.specs.declared.options.Optional.{Optional}
-use Rattle.definitions.specs.declared.options.Optional.TheVariants.{Absent, Present}
 use Rattle.definitions.specs.declared.options.Flags.{Flags}
 use Rattle.definitions.specs.declared.options.Options.{Options}
 use Rattle.definitions.specs.declared.options.Mode.{Mode}
 use Rattle.definitions.specs.declared.options.Mode.TheVariants.{Module, Script, Classic}
 use Rattle.definitions.specs.declared.options.Form.{Form}
-use Rattle.definitions.specs.declared.options.PragmaRead.{PragmaRead}
-use Rattle.definitions.specs.declared.options.PragmaRead.TheVariants as pragma
+use Rattle.definitions.specs.declared.options.InvalidPart.{InvalidPart}
 use Rattle.definitions.specs.declared.options.Settings.{Settings}
-use Rattle.definitions.specs.Judging.{Parsed, done, from, wrong, cut, spanned, Judged, accepted, too_long, refuse, refuse_at, read, judge_text}
+use Rattle.definitions.specs.Judging.{Parsed, done, from, wrong, unreadable, spanned, Judged, accepted, too_long, refuse, refuse_at, read, judge_text}
 use Rattle.definitions.specs.Options.{flags_of, conform}
 use Rattle.definitions.specs.Comments.{with_comments}
 use Rattle.definitions.specs.Pragmas.{pragma_in, form_by}
@@ -32,22 +26,22 @@ use Rattle.definitions.specs.Calls.{Notice, invalid_pragma, notice_bytes}
 -- what an opening tape says: its flags, the three option strings, and its comments in order
 pub record Opening : Type 0 where
   pub flags : ℕ
-  pub pragma : Optional
-  pub pragma_frag : Optional
-  pub import_source : Optional
+  pub pragma : Option Span
+  pub pragma_frag : Option Span
+  pub import_source : Option Span
   pub comments : List Span
 
 abbrev pub bare : ℕ → Opening
-bare n = record { flags = n; pragma = Absent; pragma_frag = Absent; import_source = Absent; comments = [] }
+bare n = record { flags = n; pragma = None; pragma_frag = None; import_source = None; comments = [] }
 
 abbrev pub with_pragma : Opening → Span → Opening
-with_pragma o s = record { flags = o.flags; pragma = Present s; pragma_frag = o.pragma_frag; import_source = o.import_source; comments = o.comments }
+with_pragma o s = record { flags = o.flags; pragma = Some s; pragma_frag = o.pragma_frag; import_source = o.import_source; comments = o.comments }
 
 abbrev pub with_pragma_frag : Opening → Span → Opening
-with_pragma_frag o s = record { flags = o.flags; pragma = o.pragma; pragma_frag = Present s; import_source = o.import_source; comments = o.comments }
+with_pragma_frag o s = record { flags = o.flags; pragma = o.pragma; pragma_frag = Some s; import_source = o.import_source; comments = o.comments }
 
 abbrev pub with_import_source : Opening → Span → Opening
-with_import_source o s = record { flags = o.flags; pragma = o.pragma; pragma_frag = o.pragma_frag; import_source = Present s; comments = o.comments }
+with_import_source o s = record { flags = o.flags; pragma = o.pragma; pragma_frag = o.pragma_frag; import_source = Some s; comments = o.comments }
 
 abbrev pub and_comment : Opening → Span → Opening
 and_comment o s =
@@ -61,14 +55,13 @@ and_comment o s =
 
 -- the opening with what the command at the front of t adds; `next` reads on behind it, with the last option's byte. An option command has five
 -- bytes. Its span may be empty
-unfoldable pub option_by : List ℕ → List ℕ → ℕ → Opening → OptionCommand → (ℕ → Opening → Parsed Opening) → Parsed Opening
-option_by text t last o option.End next = done o 0
-option_by text t last o option.Wrong next = wrong
-option_by text t last o option.Cut next = cut t
-option_by text t last o (option.Pragma s) next = spanned (bounds_of text s) (next 0x62 (with_pragma o s))
-option_by text t last o (option.PragmaFrag s) next = spanned (bounds_of text s) (next 0x63 (with_pragma_frag o s))
-option_by text t last o (option.ImportSource s) next = spanned (bounds_of text s) (next 0x64 (with_import_source o s))
-option_by text t last o (option.Comment s) next = spanned (bounds_of text s) (next 0x64 (and_comment o s))
+unfoldable pub option_by : List ℕ → List ℕ → ℕ → Opening → Result (Option OptionCommand) CommandError → (ℕ → Opening → Parsed Opening) → Parsed Opening
+option_by text t last o (Ok None) next = done o 0
+option_by text t last o (Err e) next = unreadable t e
+option_by text t last o (Ok (Some (option.Pragma s))) next = spanned (bounds_of text s) (next 0x62 (with_pragma o s))
+option_by text t last o (Ok (Some (option.PragmaFrag s))) next = spanned (bounds_of text s) (next 0x63 (with_pragma_frag o s))
+option_by text t last o (Ok (Some (option.ImportSource s))) next = spanned (bounds_of text s) (next 0x64 (with_import_source o s))
+option_by text t last o (Ok (Some (option.Comment s))) next = spanned (bounds_of text s) (next 0x64 (and_comment o s))
 
 -- the commands behind the first. The first argument bounds the turns: any number above the length of t gives the same
 unfoldable pub options_from : ℕ → List ℕ → ℕ → Opening → List ℕ → Parsed Opening
@@ -76,11 +69,9 @@ options_from zero text last o t = wrong
 options_from (suc f) text last o t =
     option_by text t last o (option_command last t) (λ next p. from 5 (options_from f text next p (drop 5 t)))
 
-unfoldable pub opening_by : List ℕ → FlagsCommand → (ℕ → Parsed Opening) → Parsed Opening
-opening_by t flags.Wrong next = wrong
-opening_by t flags.Cut next = cut t
-opening_by t flags.Bad next = wrong
-opening_by t (flags.Flags n) next = next n
+unfoldable pub opening_by : List ℕ → Result ℕ CommandError → (ℕ → Parsed Opening) → Parsed Opening
+opening_by t (Err e) next = unreadable t e
+opening_by t (Ok n) next = next n
 
 -- the whole tape
 unfoldable pub read_opening : List ℕ → List ℕ → Parsed Opening
@@ -97,30 +88,30 @@ options_of text o =
       pragma = o.pragma;
       pragma_frag = o.pragma_frag;
       import_source = o.import_source;
-      ts_pragma = Absent;
-      ts_pragma_frag = Absent;
+      ts_pragma = None;
+      ts_pragma_frag = None;
     })
     o.comments
 
-abbrev pub is_absent : Optional → Bool
-is_absent Absent = true
-is_absent (Present s) = false
+abbrev pub is_absent : Option Span → Bool
+is_absent None = true
+is_absent (Some s) = false
 
 -- the bindings that `JsxImpl::new` chooses
 unfoldable pub mode_of : Flags → Mode
 mode_of f = cond f.classic Classic (cond f.«module» Module Script)
 
 -- only classic bindings have pragmas
-unfoldable pub pragma_under : Mode → List ℕ → Optional → PragmaRead
+unfoldable pub pragma_under : Mode → List ℕ → Option Span → Result (Option Form) InvalidPart
 pragma_under Classic text p = pragma_in text p
-pragma_under Module text p = pragma.Absent
-pragma_under Script text p = pragma.Absent
+pragma_under Module text p = Ok None
+pragma_under Script text p = Ok None
 
-abbrev pub form_under : Mode → List ℕ → Optional → Form
+abbrev pub form_under : Mode → List ℕ → Option Span → Form
 form_under m text p = form_by (pragma_under m text p)
 
 -- `JsxImpl::new`, with both pragmas as they were read. "A call is pure if the option is, or if importSource and pragma are both absent."
-abbrev pub settings_with : Options → PragmaRead → PragmaRead → Settings
+abbrev pub settings_with : Options → Result (Option Form) InvalidPart → Result (Option Form) InvalidPart → Settings
 settings_with o p f =
     record {
       options = o;
@@ -137,10 +128,9 @@ settings_of text o =
 -- ---- notices
 
 -- "opening a job must pass this on as notice C2 S"
-unfoldable pub pragma_notice : PragmaRead → List Notice
-pragma_notice pragma.Absent = []
-pragma_notice (pragma.Valid f) = []
-pragma_notice (pragma.Invalid i n) = invalid_pragma (record { start = i; len = n }) ∷ []
+unfoldable pub pragma_notice : Result (Option Form) InvalidPart → List Notice
+pragma_notice (Ok f) = []
+pragma_notice (Err p) = invalid_pragma (record { start = p.place; len = p.len }) ∷ []
 
 -- "Only a classic job gives C2, pragma first, then fragment."
 unfoldable pub opening_notices : List ℕ → Settings → List Notice
@@ -158,9 +148,9 @@ unfoldable pub or_react : List ℕ → List ℕ
 or_react [] = ascii "react"
 or_react (b ∷ l) = b ∷ l
 
-unfoldable pub import_source : List ℕ → Optional → List ℕ
-import_source text Absent = ascii "react"
-import_source text (Present s) = or_react (part_of text s)
+unfoldable pub import_source : List ℕ → Option Span → List ℕ
+import_source text None = ascii "react"
+import_source text (Some s) = or_react (part_of text s)
 
 -- "The runtime source is it plus /jsx-runtime or /jsx-dev-runtime."
 unfoldable pub runtime_source : List ℕ → Options → List ℕ
@@ -170,19 +160,19 @@ runtime_source text o =
 -- ---- refusals
 
 -- the place of a setting's first byte over 7F
-unfoldable pub shifted : ℕ → Found → Found
-shifted n (found.At p) = found.At (n + p)
-shifted n found.Nothing = found.Nothing
+unfoldable pub shifted : ℕ → Option ℕ → Option ℕ
+shifted n (Some p) = Some (n + p)
+shifted n None = None
 
-unfoldable pub over_ascii_in : List ℕ → Optional → Found
-over_ascii_in text Absent = found.Nothing
-over_ascii_in text (Present s) = shifted s.start (find over_ascii (part_of text s))
+unfoldable pub over_ascii_in : List ℕ → Option Span → Option ℕ
+over_ascii_in text None = None
+over_ascii_in text (Some s) = shifted s.start (find over_ascii (part_of text s))
 
 -- "classic, and a pragma in force has a byte over 7F", "pragma before fragment"
-unfoldable pub if_classic : Mode → Found → Found
+unfoldable pub if_classic : Mode → Option ℕ → Option ℕ
 if_classic Classic p = p
-if_classic Module p = found.Nothing
-if_classic Script p = found.Nothing
+if_classic Module p = None
+if_classic Script p = None
 
 -- before what is judged behind it
 unfoldable pub pragmas_checked : List ℕ → Settings → Judged Settings → Judged Settings

@@ -1,19 +1,16 @@
 -- docs/TAPES.md, "Root tape", "Grammar" and "Refusals": how a root tape is read as a tree, or where it is refused. Faults are told at the earliest command, within one
 -- command in the order 3, 4, 13, 14, 6, 7, 8 (Faults has it apart from any reading).
-use Rattle.std.specs.Prelude.{ℕ, zero, suc, Bool, false, cond, ◌||◌, List, [], ◌∷◌, length, drop, eqb, leb, ltb}
+use Rattle.std.specs.Prelude.{ℕ, zero, suc, Bool, false, cond, ◌||◌, List, [], ◌∷◌, length, drop, eqb, leb, ltb, Option, None, Some, Result, Ok, Err}
 use Rattle.text.specs.declared.spans.Span.{Span}
 use Rattle.text.specs.Spans.{part_of, bounds_of}
 use Rattle.references.specs.References.{has_reference}
 use Rattle.tape.specs.declared.refusal.Fault.TheVariants as fault
+use Rattle.commands.specs.declared.error.CommandError.{CommandError}
 use Rattle.commands.specs.declared.root.Place.{Place}
-use Rattle.commands.specs.declared.root.HeritageCommand.{HeritageCommand}
-use Rattle.commands.specs.declared.root.HeritageCommand.TheVariants as heritages
 use Rattle.commands.specs.declared.root.ScopeCommand.{ScopeCommand}
 use Rattle.commands.specs.declared.root.ScopeCommand.TheVariants as scopes
 use Rattle.commands.specs.declared.root.NameCommand.{NameCommand}
 use Rattle.commands.specs.declared.root.NameCommand.TheVariants as names
-use Rattle.commands.specs.declared.root.MemberCommand.{MemberCommand}
-use Rattle.commands.specs.declared.root.MemberCommand.TheVariants as members
 use Rattle.commands.specs.declared.root.AttributeCommand.{AttributeCommand}
 use Rattle.commands.specs.declared.root.AttributeCommand.TheVariants as attributes
 use Rattle.commands.specs.declared.root.PropertyCommand.{PropertyCommand}
@@ -23,7 +20,7 @@ use Rattle.commands.specs.declared.root.ValueCommand.TheVariants as values
 use Rattle.commands.specs.declared.root.ChildCommand.{ChildCommand}
 use Rattle.commands.specs.declared.root.ChildCommand.TheVariants as children
 use Rattle.commands.specs.Root.{heritage_command, scope_command, name_command, member_command, attribute_command, property_command, value_command, child_command}
-use Rattle.definitions.specs.Judging.{Parsed, done, stop, ◌then◌, map, from, wrong, cut, spanned, named, worse}
+use Rattle.definitions.specs.Judging.{Parsed, done, stop, ◌then◌, map, from, wrong, unreadable, spanned, named, worse}
 use Rattle.definitions.specs.Tree.{Name, plain, identifier, this, namespaced, Property, unnamed, prop_name, Node, element, fragment, Attributes, no_attributes, attribute, namespaced_attribute, spread, literal, Value, absent, string, expression, empty, node_value, Children, no_children, text_child, expression_child, empty_child, spread_child, node_child, Root}
 
 -- ---- what else can be wrong at a command
@@ -40,59 +37,54 @@ opened d p body =
 
 -- ---- by the command at the front of t, what stands there. `next u` reads on u bytes further. The names' order is that of the commands.
 
-unfoldable pub members_by : List ℕ → List ℕ → MemberCommand → (ℕ → Parsed (List Span)) → Parsed (List Span)
-members_by text t members.Other next = done [] 0
-members_by text t members.Cut next = cut t
-members_by text t (members.Member s) next = named (bounds_of text s) (map (s ∷◌) (next 5))
+unfoldable pub members_by : List ℕ → List ℕ → Result (Option Span) CommandError → (ℕ → Parsed (List Span)) → Parsed (List Span)
+members_by text t (Ok None) next = done [] 0
+members_by text t (Err e) next = unreadable t e
+members_by text t (Ok (Some s)) next = named (bounds_of text s) (map (s ∷◌) (next 5))
 
-unfoldable pub name_by : List ℕ → List ℕ → NameCommand → (ℕ → Parsed (List Span)) → Parsed Name
-name_by text t names.Wrong next = wrong
-name_by text t names.Cut next = cut t
-name_by text t (names.Plain s) next = named (bounds_of text s) (done (plain s) 5)
-name_by text t (names.Identifier s) next = named (bounds_of text s) (map (identifier s) (next 5))
-name_by text t names.This next = map this (next 1)
-name_by text t (names.Namespaced s r) next = named (worse (bounds_of text s) (bounds_of text r)) (done (namespaced s r) 9)
+unfoldable pub name_by : List ℕ → List ℕ → Result NameCommand CommandError → (ℕ → Parsed (List Span)) → Parsed Name
+name_by text t (Err e) next = unreadable t e
+name_by text t (Ok (names.Plain s)) next = named (bounds_of text s) (done (plain s) 5)
+name_by text t (Ok (names.Identifier s)) next = named (bounds_of text s) (map (identifier s) (next 5))
+name_by text t (Ok names.This) next = map this (next 1)
+name_by text t (Ok (names.Namespaced s r)) next = named (worse (bounds_of text s) (bounds_of text r)) (done (namespaced s r) 9)
 
 -- the S of 36 may be empty
-unfoldable pub properties_by : List ℕ → List ℕ → PropertyCommand → (ℕ → Parsed (List Property)) → Parsed (List Property)
-properties_by text t properties.Wrong next = wrong
-properties_by text t properties.Cut next = cut t
-properties_by text t properties.End next = done [] 1
-properties_by text t (properties.Property e) next = map (unnamed e ∷◌) (next 3)
-properties_by text t (properties.Named e s) next = spanned (bounds_of text s) (map (prop_name e s ∷◌) (next 7))
+unfoldable pub properties_by : List ℕ → List ℕ → Result PropertyCommand CommandError → (ℕ → Parsed (List Property)) → Parsed (List Property)
+properties_by text t (Err e) next = unreadable t e
+properties_by text t (Ok properties.End) next = done [] 1
+properties_by text t (Ok (properties.Property e)) next = map (unnamed e ∷◌) (next 3)
+properties_by text t (Ok (properties.Named e s)) next = spanned (bounds_of text s) (map (prop_name e s ∷◌) (next 7))
 
-unfoldable pub attributes_by : List ℕ → List ℕ → AttributeCommand → (ℕ → Parsed Value) → (ℕ → Parsed (List Property)) → (ℕ → Parsed Attributes) → Parsed Attributes
-attributes_by text t attributes.Wrong value props next = wrong
-attributes_by text t attributes.Cut value props next = cut t
-attributes_by text t attributes.End value props next = done no_attributes 1
-attributes_by text t (attributes.Plain s) value props next =
+unfoldable pub attributes_by : List ℕ → List ℕ → Result AttributeCommand CommandError → (ℕ → Parsed Value) → (ℕ → Parsed (List Property)) → (ℕ → Parsed Attributes) → Parsed Attributes
+attributes_by text t (Err e) value props next = unreadable t e
+attributes_by text t (Ok attributes.End) value props next = done no_attributes 1
+attributes_by text t (Ok (attributes.Plain s)) value props next =
     named (bounds_of text s) (value 5 then λ v u. map (attribute s v) (next u))
-attributes_by text t (attributes.Namespaced s r) value props next =
+attributes_by text t (Ok (attributes.Namespaced s r)) value props next =
     named (worse (bounds_of text s) (bounds_of text r)) (value 9 then λ v u. map (namespaced_attribute s r v) (next u))
-attributes_by text t (attributes.Spread e) value props next = map (spread e) (next 3)
-attributes_by text t (attributes.Literal e) value props next = props 3 then λ ps u. map (literal e ps) (next u)
+attributes_by text t (Ok (attributes.Spread e)) value props next = map (spread e) (next 3)
+attributes_by text t (Ok (attributes.Literal e)) value props next = props 3 then λ ps u. map (literal e ps) (next u)
 
 -- `whole p` and `bare p` read an element's or a fragment's rest
-unfoldable pub value_by : List ℕ → ℕ → List ℕ → ValueCommand → (Place → Parsed Node) → (Place → Parsed Node) → Parsed Value
-value_by text d t values.Wrong whole bare = wrong
-value_by text d t values.Cut whole bare = cut t
-value_by text d t values.Absent whole bare = done absent 1
-value_by text d t (values.Text s) whole bare = lettered text s (done (string s) 5)
-value_by text d t (values.Expression e) whole bare = done (expression e) 3
-value_by text d t values.Empty whole bare = done empty 1
-value_by text d t (values.Element p) whole bare = map node_value (opened d p (whole p))
-value_by text d t (values.Fragment p) whole bare = map node_value (opened d p (bare p))
+unfoldable pub value_by : List ℕ → ℕ → List ℕ → Result ValueCommand CommandError → (Place → Parsed Node) → (Place → Parsed Node) → Parsed Value
+value_by text d t (Err e) whole bare = unreadable t e
+value_by text d t (Ok values.Absent) whole bare = done absent 1
+value_by text d t (Ok (values.Text s)) whole bare = lettered text s (done (string s) 5)
+value_by text d t (Ok (values.Expression e)) whole bare = done (expression e) 3
+value_by text d t (Ok values.Empty) whole bare = done empty 1
+value_by text d t (Ok (values.Element p)) whole bare = map node_value (opened d p (whole p))
+value_by text d t (Ok (values.Fragment p)) whole bare = map node_value (opened d p (bare p))
 
-unfoldable pub children_by : List ℕ → ℕ → List ℕ → ChildCommand → (Place → Parsed Node) → (Place → Parsed Node) → (ℕ → Parsed Children) → Parsed Children
-children_by text d t children.Wrong whole bare next = wrong
-children_by text d t children.Cut whole bare next = cut t
-children_by text d t children.End whole bare next = done no_children 1
-children_by text d t (children.Text s) whole bare next = lettered text s (map (text_child s) (next 5))
-children_by text d t (children.Expression e) whole bare next = map (expression_child e) (next 3)
-children_by text d t children.Empty whole bare next = map empty_child (next 1)
-children_by text d t (children.Spread e) whole bare next = map (spread_child e) (next 3)
-children_by text d t (children.Element p) whole bare next = opened d p (whole p) then λ n u. map (node_child n) (next u)
-children_by text d t (children.Fragment p) whole bare next = opened d p (bare p) then λ n u. map (node_child n) (next u)
+unfoldable pub children_by : List ℕ → ℕ → List ℕ → Result ChildCommand CommandError → (Place → Parsed Node) → (Place → Parsed Node) → (ℕ → Parsed Children) → Parsed Children
+children_by text d t (Err e) whole bare next = unreadable t e
+children_by text d t (Ok children.End) whole bare next = done no_children 1
+children_by text d t (Ok (children.Text s)) whole bare next = lettered text s (map (text_child s) (next 5))
+children_by text d t (Ok (children.Expression e)) whole bare next = map (expression_child e) (next 3)
+children_by text d t (Ok children.Empty) whole bare next = map empty_child (next 1)
+children_by text d t (Ok (children.Spread e)) whole bare next = map (spread_child e) (next 3)
+children_by text d t (Ok (children.Element p)) whole bare next = opened d p (whole p) then λ n u. map (node_child n) (next u)
+children_by text d t (Ok (children.Fragment p)) whole bare next = opened d p (bare p) then λ n u. map (node_child n) (next u)
 
 -- ---- what stands at the front of t. The first argument bounds the turns: any number above the length of t gives the same. d elements and fragments
 -- are open
@@ -159,13 +151,11 @@ in_scope k s = record { kinds = k ∷ s.kinds; node = s.node }
 abbrev pub unscoped : Node → Scoped
 unscoped n = record { kinds = []; node = n }
 
-unfoldable pub scopes_by : List ℕ → List ℕ → ScopeCommand → (Place → Parsed Node) → (Place → Parsed Node) → (ℕ → Parsed Scoped) → Parsed Scoped
-scopes_by text t scopes.Wrong whole bare next = wrong
-scopes_by text t scopes.Cut whole bare next = cut t
-scopes_by text t scopes.Bad whole bare next = wrong
-scopes_by text t (scopes.Scope k) whole bare next = map (in_scope k) (next k)
-scopes_by text t (scopes.Element p) whole bare next = map unscoped (opened 0 p (whole p))
-scopes_by text t (scopes.Fragment p) whole bare next = map unscoped (opened 0 p (bare p))
+unfoldable pub scopes_by : List ℕ → List ℕ → Result ScopeCommand CommandError → (Place → Parsed Node) → (Place → Parsed Node) → (ℕ → Parsed Scoped) → Parsed Scoped
+scopes_by text t (Err e) whole bare next = unreadable t e
+scopes_by text t (Ok (scopes.Scope k)) whole bare next = map (in_scope k) (next k)
+scopes_by text t (Ok (scopes.Element p)) whole bare next = map unscoped (opened 0 p (whole p))
+scopes_by text t (Ok (scopes.Fragment p)) whole bare next = map unscoped (opened 0 p (bare p))
 
 -- the scopes and what stands in them; `known` says that one of kind 2 or 3 has come
 unfoldable pub scopes_at : ℕ → List ℕ → Bool → List ℕ → Parsed Scoped
@@ -176,11 +166,9 @@ scopes_at (suc f) text known t =
     (λ p. fragment_at f text 0 p (drop 9 t))
     (λ k. from 2 (scopes_at f text (known || is_function k) (drop 2 t)))
 
-unfoldable pub root_by : List ℕ → HeritageCommand → Parsed Scoped → Parsed Root
-root_by t heritages.Wrong rest = wrong
-root_by t heritages.Cut rest = cut t
-root_by t heritages.Bad rest = wrong
-root_by t (heritages.Heritage h) rest = map (λ s. record { heritage = h; scopes = s.kinds; node = s.node }) rest
+unfoldable pub root_by : List ℕ → Result ℕ CommandError → Parsed Scoped → Parsed Root
+root_by t (Err e) rest = unreadable t e
+root_by t (Ok h) rest = map (λ s. record { heritage = h; scopes = s.kinds; node = s.node }) rest
 
 -- "then one element or fragment and nothing more": what is left over is refused where it begins
 unfoldable pub whole : {A : Type 0} → List ℕ → Parsed A → Parsed A

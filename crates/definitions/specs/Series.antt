@@ -1,10 +1,9 @@
 -- The specification's "Series of roots": each root is given the state that the last one left and the same call and notice targets.
-use Rattle.std.specs.Prelude.{ℕ, List, [], ◌∷◌, ◌++◌, take}
+use Rattle.std.specs.Prelude.{ℕ, List, [], ◌∷◌, ◌++◌, take, Err, Ok, Result, ⊤}
+use Rattle.tape.specs.declared.refusal.Refusal.{Refusal}
 use Rattle.definitions.specs.declared.options.Settings.{Settings}
 use Rattle.definitions.specs.declared.records.Import.{Import}
 use Rattle.definitions.specs.declared.state.State.{State}
-use Rattle.definitions.specs.declared.state.Answer.{Answer}
-use Rattle.definitions.specs.declared.state.Answer.TheVariants as answer
 use Rattle.definitions.specs.Judging.{Parsed, done, stop}
 use Rattle.definitions.specs.Tree.{Root}
 use Rattle.definitions.specs.Reading.{read_root}
@@ -39,9 +38,9 @@ series text w [] = w
 series text w (t ∷ ts) = series text (next text w t) ts
 
 -- one more where the answer is acceptance
-unfoldable pub if_accepted : {A : Type 0} → Answer → A → List A → List A
-if_accepted answer.Accepted a rest = a ∷ rest
-if_accepted (answer.Refused r) a rest = rest
+unfoldable pub if_accepted : {A : Type 0} → Result ⊤ Refusal → A → List A → List A
+if_accepted (Ok tt) a rest = a ∷ rest
+if_accepted (Err r) a rest = rest
 
 -- the roots of the list that are accepted
 unfoldable pub accepted_in : List ℕ → World → List (List ℕ) → List (List ℕ)

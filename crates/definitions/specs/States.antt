@@ -1,12 +1,9 @@
 -- docs/TAPES.md, "Refusals", 12: which states are forged. What a state says is judged against the text.
-use Rattle.std.specs.Prelude.{ℕ, suc, Bool, true, false, not, ◌&&◌, ◌||◌, List, [], ◌∷◌, ◌++◌, map, take, eqb, ltb}
-use Rattle.text.specs.declared.bytes.Found.{Found}
-use Rattle.text.specs.declared.bytes.Found.TheVariants as found
+use Rattle.std.specs.Prelude.{ℕ, suc, Bool, true, false, not, ◌&&◌, ◌||◌, List, [], ◌∷◌, ◌++◌, map, take, eqb, ltb, None, Option, Some}
+use Rattle.text.specs.declared.spans.Span.{Span}
 use Rattle.text.specs.declared.spans.Bounds.{Bounds}
 use Rattle.text.specs.declared.spans.Bounds.TheVariants as bounds
 use Rattle.text.specs.Spans.{bounds_of}
-use Rattle.definitions.specs.declared.options.Optional.{Optional}
-use Rattle.definitions.specs.declared.options.Optional.TheVariants.{Absent, Present}
 use Rattle.definitions.specs.declared.options.Options.{Options}
 use Rattle.definitions.specs.declared.options.PragmaRoot.{PragmaRoot}
 use Rattle.definitions.specs.declared.options.PragmaRoot.TheVariants as root
@@ -27,9 +24,9 @@ in_order bounds.Cuts = false
 in_order bounds.Empty = true
 in_order bounds.Good = true
 
-unfoldable pub borne_out : List ℕ → Optional → Bool
-borne_out text Absent = true
-borne_out text (Present s) = in_order (bounds_of text s)
+unfoldable pub borne_out : List ℕ → Option Span → Bool
+borne_out text None = true
+borne_out text (Some s) = in_order (bounds_of text s)
 
 abbrev pub spans_borne_out : List ℕ → Options → Bool
 spans_borne_out text o =
@@ -49,9 +46,9 @@ abbrev pub same_form : Form → Form → Bool
 same_form f g = eqb (root_number f.root) (root_number g.root) && eqb f.tail g.tail
 
 -- a form is borne out where it is the one that the text gives. In classic settings a pragma with a byte over 7F, whose opening is refused (5), gives none
-unfoldable pub form_borne_out : Found → Form → Form → Bool
-form_borne_out (found.At p) f g = false
-form_borne_out found.Nothing f g = same_form f g
+unfoldable pub form_borne_out : Option ℕ → Form → Form → Bool
+form_borne_out (Some p) f g = false
+form_borne_out None f g = same_form f g
 
 -- both pragmas, under these settings
 abbrev pub forms_borne_out : List ℕ → Settings → Bool

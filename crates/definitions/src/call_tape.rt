@@ -1,70 +1,101 @@
-// The commands of the call tape by name: the names of specs/Calls. docs/TAPES.md says what each means.
+// The commands of the call tape by their operands: docs/TAPES.md says what each means.
+ghost use Rattle.std.specs.Prelude.{◌≡◌, ℕ};
+ghost use Rattle.definitions.specs.Calls.{bare_code, byte_code, expression_code, span_code};
+
+// A command by the byte that it begins with.
+pub trait Coded {
+    ghost code: { Self → ℕ };
+
+    fn code(self) -> u8
+        ensures { result ≡ code self };
+}
 
 // No operand.
-pub const OBJECT_BEGIN: u8 = 0x81;
+#[derive(Clone, Copy)]
+pub enum Bare {
+    ObjectBegin = 0x81,
+    ObjectEnd = 0x82,
+    StringName = 0x84,
+    Null = 0x88,
+    StringBegin = 0x8a,
+    Space = 0x8c,
+    StringEnd = 0x8d,
+    Colon = 0x8e,
+    LiteralTrue = 0x90,
+    LiteralFalse = 0x91,
+    VoidZero = 0x92,
+    This = 0x93,
+    ChildrenBegin = 0x9a,
+    Key = 0x9d,
+    Tag = 0x9e,
+    Callee = 0x9f,
+    SelfProperty = 0xa2,
+}
 
-pub const OBJECT_END: u8 = 0x82;
+impl Coded for Bare {
+    ghost code = { bare_code };
 
-pub const STRING_NAME: u8 = 0x84;
-
-pub const NULL: u8 = 0x88;
-
-pub const STRING_BEGIN: u8 = 0x8a;
-
-pub const SPACE: u8 = 0x8c;
-
-pub const STRING_END: u8 = 0x8d;
-
-pub const COLON: u8 = 0x8e;
-
-pub const LITERAL_TRUE: u8 = 0x90;
-
-pub const LITERAL_FALSE: u8 = 0x91;
-
-pub const VOID_ZERO: u8 = 0x92;
-
-pub const THIS: u8 = 0x93;
-
-pub const CHILDREN_BEGIN: u8 = 0x9a;
-
-pub const KEY: u8 = 0x9d;
-
-pub const TAG: u8 = 0x9e;
-
-pub const CALLEE: u8 = 0x9f;
-
-pub const SELF: u8 = 0xa2;
+    #[tactic(auto, unfolding(crate::specs::Calls::bare_code))]
+    fn code(self) -> u8 {
+        self as u8
+    }
+}
 
 // A byte.
-pub const CALL: u8 = 0x80;
+#[derive(Clone, Copy)]
+pub enum WithByte {
+    Call = 0x80,
+    Pragma = 0x98,
+    Member = 0x99,
+    ChildrenEnd = 0x9b,
+    CallEnd = 0xa0,
+}
 
-pub const PRAGMA: u8 = 0x98;
+impl Coded for WithByte {
+    ghost code = { byte_code };
 
-pub const MEMBER: u8 = 0x99;
-
-pub const CHILDREN_END: u8 = 0x9b;
-
-pub const CALL_END: u8 = 0xa0;
+    #[tactic(auto, unfolding(crate::specs::Calls::byte_code))]
+    fn code(self) -> u8 {
+        self as u8
+    }
+}
 
 // An expression of the host's.
-pub const SPREAD_PROPERTY: u8 = 0x86;
+#[derive(Clone, Copy)]
+pub enum WithExpression {
+    SpreadProperty = 0x86,
+    Carried = 0x87,
+    SoleSpread = 0x89,
+    Expression = 0x94,
+    SpreadItem = 0x9c,
+}
 
-pub const CARRIED: u8 = 0x87;
+impl Coded for WithExpression {
+    ghost code = { expression_code };
 
-pub const SOLE_SPREAD: u8 = 0x89;
-
-pub const EXPRESSION: u8 = 0x94;
-
-pub const SPREAD_ITEM: u8 = 0x9c;
+    #[tactic(auto, unfolding(crate::specs::Calls::expression_code))]
+    fn code(self) -> u8 {
+        self as u8
+    }
+}
 
 // A span.
-pub const NAME: u8 = 0x83;
+#[derive(Clone, Copy)]
+pub enum WithSpan {
+    Name = 0x83,
+    Piece = 0x8b,
+    Identifier = 0x97,
+    MemberName = 0xa3,
+}
 
-pub const PIECE: u8 = 0x8b;
+impl Coded for WithSpan {
+    ghost code = { span_code };
 
-pub const IDENTIFIER: u8 = 0x97;
-
-pub const MEMBER_NAME: u8 = 0xa3;
+    #[tactic(auto, unfolding(crate::specs::Calls::span_code))]
+    fn code(self) -> u8 {
+        self as u8
+    }
+}
 
 // A binding; with a line and a column.
 pub const BINDING: u8 = 0x96;

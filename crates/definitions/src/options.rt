@@ -1,13 +1,6 @@
 // Options as the opening tape and the comments give them, and the settings that follow from them.
 use text::spans::Span;
 
-// A setting that is a part of the text, or absent.
-#[derive(Clone, Copy)]
-pub enum Optional {
-    Absent,
-    Present(Span),
-}
-
 // The flags of the opening tape, bit by bit.
 #[derive(Clone, Copy)]
 pub struct Flags {
@@ -25,15 +18,15 @@ pub struct Flags {
 #[derive(Clone, Copy)]
 pub struct Options {
     pub flags: Flags,
-    pub pragma: Optional,
-    pub pragma_frag: Optional,
-    pub import_source: Optional,
-    pub ts_pragma: Optional,
-    pub ts_pragma_frag: Optional,
+    pub pragma: Option<Span>,
+    pub pragma_frag: Option<Span>,
+    pub import_source: Option<Span>,
+    pub ts_pragma: Option<Span>,
+    pub ts_pragma_frag: Option<Span>,
 }
 
 // The bindings mode.
-#[derive(Clone, Copy)]
+#[derive(Clone, Copy, PartialEq, Eq)]
 pub enum Mode {
     Module,
     Script,
@@ -41,7 +34,7 @@ pub enum Mode {
 }
 
 // What a pragma begins with: the default's `React`, `this`, `import.meta` or an identifier.
-#[derive(Clone, Copy)]
+#[derive(Clone, Copy, PartialEq, Eq)]
 pub enum PragmaRoot {
     Default,
     This,
@@ -50,18 +43,17 @@ pub enum PragmaRoot {
 }
 
 // A pragma's root and how many parts follow it. (The parts themselves are in the text.)
-#[derive(Clone, Copy)]
+#[derive(Clone, Copy, PartialEq, Eq)]
 pub struct Form {
     pub root: PragmaRoot,
     pub tail: usize,
 }
 
-// What reading a pragma gives: none is there, it is valid, with its form, or it is not, with the first part that fails: where that begins, and its length.
+// The first part of a pragma that fails: where it begins, and its length.
 #[derive(Clone, Copy)]
-pub enum PragmaRead {
-    Absent,
-    Valid(Form),
-    Invalid(usize, usize),
+pub struct InvalidPart {
+    pub place: usize,
+    pub len: usize,
 }
 
 // The options in force and what follows from them: whether calls are pure, the bindings mode and the forms of both pragmas.

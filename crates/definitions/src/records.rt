@@ -17,14 +17,15 @@ pub const JSXS: u8 = 3;
 pub const JSX_DEV: u8 = 4;
 
 // A named import from a source (the source, the name), a require of a source, or the file name.
-#[derive(Clone, Copy)]
+// kept: the C interface: records come in a caller's bytes, where a source or a name may be any byte
+#[derive(Clone, Copy, PartialEq, Eq)]
 pub enum Import {
     Named(u8, u8),
     Default(u8),
     FileName,
 }
 
-#[derive(Clone, Copy)]
+#[derive(Clone, Copy, PartialEq, Eq)]
 pub struct Record {
     pub import: Import,
     pub binding: u8,

@@ -4,6 +4,7 @@ use crate::records::Record;
 use tape::refusal::Refusal;
 
 // The settings, the first `count` of the records, and how many bytes of the call target and of the notice target are filled.
+// kept: no heap: the records stand in fixed memory, the first `count` of eight
 #[derive(Clone, Copy)]
 pub struct State {
     pub settings: Settings,
@@ -13,22 +14,9 @@ pub struct State {
     pub notices: usize,
 }
 
-#[derive(Clone, Copy)]
-pub enum Answer {
-    Accepted,
-    Refused(Refusal),
-}
-
 // What opening a job and lowering a root give back.
 #[derive(Clone, Copy)]
 pub struct Stepped {
-    pub answer: Answer,
+    pub answer: Result<(), Refusal>,
     pub state: State,
-}
-
-// What writing the records answers: how many bytes were written.
-#[derive(Clone, Copy)]
-pub enum Written {
-    Accepted(usize),
-    Refused(Refusal),
 }

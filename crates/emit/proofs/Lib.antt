@@ -1,5 +1,3 @@
-pub mod Bits
-pub mod Outlines
 pub mod Readings
 pub mod Members
 pub mod Names

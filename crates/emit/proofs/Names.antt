@@ -1,13 +1,15 @@
 -- A name by its command (`name_at` of definitions, Reading).
 --     name_plain, name_identifier, name_this, name_namespaced     what was read where the command stands
---     name_wrong, name_cut                                        where nothing can be read
+--     name_error                                                  where nothing can be read
 -- Assumes nothing.
+use Rattle.std.specs.Prelude.{Ok, Err}
 use mathlib.Core.Path.{◌≡◌}
 use mathlib.Core.List.{List}
 use Prim.Native.Nat.{ℕ}
 use lib.ListN.{drop}
 use Rattle.text.specs.declared.spans.Span.{Span}
 use Rattle.text.specs.Spans.{bounds_of}
+use Rattle.commands.specs.declared.error.CommandError.{CommandError}
 use Rattle.commands.specs.declared.root.NameCommand.TheVariants as command
 use Rattle.commands.specs.Root.{name_command}
 use Rattle.definitions.specs.Judging.{done, map, from, named, worse}
@@ -30,34 +32,30 @@ module _ (f : ℕ) (text t : List ℕ) (n : Name) (u : ℕ) where
       record { members = m.0; size = r.0; is = m.2; reads = r.1 }
 
   module _ (e : name_at f text t ≡ done n u) where
-    pub name_plain : (s : Span) → name_command t ≡ command.Plain s → plain s ≡ n
+    pub name_plain : (s : Span) → name_command t ≡ Ok (command.Plain s) → plain s ≡ n
     unfolding name_at name_by
     name_plain s q =
         let d : named (bounds_of text s) (done (plain s) 5) ≡ done n u = rw q at e in
         let g : done (plain s) 5 ≡ done n u = named_done (bounds_of text s) (done (plain s) 5) d in
         cc
 
-    pub name_identifier : (s : Span) → name_command t ≡ command.Identifier s → WithMembers (identifier s) 5
+    pub name_identifier : (s : Span) → name_command t ≡ Ok (command.Identifier s) → WithMembers (identifier s) 5
     unfolding name_at name_by
     name_identifier s q =
         let d : named (bounds_of text s) (map (identifier s) (from 5 (members_at f text (drop 5 t)))) ≡ done n u = rw q at e in
         with_members (identifier s) 5 (named_done (bounds_of text s) (map (identifier s) (from 5 (members_at f text (drop 5 t)))) d)
 
-    pub name_this : name_command t ≡ command.This → WithMembers this 1
+    pub name_this : name_command t ≡ Ok command.This → WithMembers this 1
     unfolding name_at name_by
     name_this q = with_members this 1 (rw q at e)
 
-    pub name_namespaced : (s r : Span) → name_command t ≡ command.Namespaced s r → namespaced s r ≡ n
+    pub name_namespaced : (s r : Span) → name_command t ≡ Ok (command.Namespaced s r) → namespaced s r ≡ n
     unfolding name_at name_by
     name_namespaced s r q =
         let d : named (worse (bounds_of text s) (bounds_of text r)) (done (namespaced s r) 9) ≡ done n u = rw q at e in
         let g : done (namespaced s r) 9 ≡ done n u = named_done (worse (bounds_of text s) (bounds_of text r)) (done (namespaced s r) 9) d in
         cc
 
-    pub name_wrong : {A : Type 0} → name_command t ≡ command.Wrong → A
+    pub name_error : {A : Type 0} {x : CommandError} → name_command t ≡ Err x → A
     unfolding name_at name_by
-    name_wrong q = stopped (rw q at e)
-
-    pub name_cut : {A : Type 0} → name_command t ≡ command.Cut → A
-    unfolding name_at name_by
-    name_cut q = stopped (rw q at e)
+    name_error q = stopped (rw q at e)

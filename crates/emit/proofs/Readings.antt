@@ -2,13 +2,14 @@
 --     stopped                      a fault is nothing read
 --     named_done, spanned_done     what follows a span in order
 --     map_done, from_done, then_done     what was read before it was changed, further on, or first
---     seen                               what a reader of a command answered
 --     in_part, part_short                a reading further on, in the part that is handed on
+--     Rest, rest_all, rest_more          what is left of a tape
 -- Assumes nothing.
-use mathlib.Core.Path.{◌≡◌, refl, sym, ap, ◌∙◌}
+use mathlib.Core.Path.{◌≡◌, refl, ap, ◌∙◌}
 use mathlib.Core.List.{List}
-use Prim.Native.Nat.{ℕ, ◌+◌, ◌-◌, ◌<◌}
+use Prim.Native.Nat.{ℕ, ◌+◌, ◌-◌, ◌≤◌, ◌<◌}
 use lib.ListN.{length, take, drop, length-drop}
+use lib.Seq.{drop-drop}
 use native.Mathlib.Omega.{arith}
 use Rattle.text.specs.declared.spans.Bounds.{Bounds}
 use Rattle.text.specs.declared.spans.Bounds.TheVariants.{Outside, Cuts, Empty, Good}
@@ -50,13 +51,25 @@ unfolding map ◌then◌
 map_done g (done x v) e = (x, cc, cc)
 map_done g (stop f p) e = stopped e
 
--- a reader's answer at `&t[i..]`, by its contract and by the arm that was taken
-pub seen : {A : Type 0} (g : List ℕ → A) (t : List ℕ) (i : ℕ) {r k : A} → r ≡ g (take (length t - i) (drop i t)) → r ≡ k → g (drop i t) ≡ k
-seen g t i p q = ap g (sym (tail_part t i)) ∙ sym p ∙ q
-
 -- what reads from place k on reads the same in `&t[k..]`, which is no longer than t
 pub in_part : {A : Type 0} (g : List ℕ → A) (t : List ℕ) (k : ℕ) {x : A} → g (drop k t) ≡ x → g (take (length t - k) (drop k t)) ≡ x
 in_part g t k e = ap g (tail_part t k) ∙ e
 
 pub part_short : (t : List ℕ) (k f : ℕ) → length t < f → length (take (length t - k) (drop k t)) < f
 part_short t k f h = rw (tail_part t k) (omega (arith, length-drop k t))
+
+-- t' is what is left of t
+pub record Rest (t t' : List ℕ) : Type 0 where
+  pub passed : ℕ
+  pub here : t' ≡ drop passed t
+  pub size : passed + length t' ≡ length t
+
+pub rest_all : (t : List ℕ) → Rest t t
+rest_all t = record { passed = 0; here = refl; size = omega arith }
+
+pub rest_more : {t t' t'' : List ℕ} (k : ℕ) → Rest t t' → k ≤ length t' → t'' ≡ drop k t' → Rest t t''
+rest_more {t} {t'} k r h e = record {
+  passed = r.passed + k;
+  here = e ∙ ap (λ (l : List ℕ). drop k l) r.here ∙ drop-drop k r.passed t;
+  size = omega (arith, r.size, ap length e, length-drop k t');
+}

@@ -1,5 +1,5 @@
 -- What stands in front of the element or fragment on a root tape, and where that stands.
-use Rattle.std.specs.Prelude.{◌≡◌, true, List, ℕ, ◌≤◌, length, drop}
+use Rattle.std.specs.Prelude.{◌≡◌, Bool, true, List, Ok, ℕ, ◌≤◌, length, drop}
 use Rattle.commands.specs.declared.root.Place.{Place}
 use Rattle.commands.specs.declared.root.ScopeCommand.TheVariants as scopes
 use Rattle.commands.specs.Root.{scope_command}
@@ -7,22 +7,21 @@ use Rattle.definitions.specs.Judging.{done}
 use Rattle.definitions.specs.Tree.{Node, Root}
 use Rattle.definitions.specs.Reading.{Scoped, opened, element_at, fragment_at}
 use Rattle.definitions.specs.Lowering.{inside_constructor, can_add_self}
-use Rattle.emit.specs.declared.jsx_self.Scopes.{Scopes}
-use Rattle.emit.specs.declared.jsx_self.Head.{Head}
+use Rattle.emit.specs.declared.used.Used.{Used}
 
 -- the element or fragment n at the front of t, read with turns enough
 pub data NodeAt (text t : List ℕ) (n : Node) : Type 0 where
-  element_headed : (p : Place) (f u : ℕ) → length t ≤ f → scope_command true t ≡ scopes.Element p
+  element_headed : (p : Place) (f u : ℕ) → length t ≤ f → scope_command true t ≡ Ok (scopes.Element p)
       → opened 0 p (element_at f text 0 p (drop 9 t)) ≡ done n u → NodeAt text t n
-  fragment_headed : (p : Place) (f u : ℕ) → length t ≤ f → scope_command true t ≡ scopes.Fragment p
+  fragment_headed : (p : Place) (f u : ℕ) → length t ≤ f → scope_command true t ≡ Ok (scopes.Fragment p)
       → opened 0 p (fragment_at f text 0 p (drop 9 t)) ≡ done n u → NodeAt text t n
 
 -- the scopes of s, which begin t
-pub record ScopesOf (text t : List ℕ) (s : Scoped) (r : Scopes) : Type 0 where
-  pub inside : r.inside ≡ inside_constructor s.kinds
+pub record ScopesOf (text t : List ℕ) (s : Scoped) (r : Used Bool) : Type 0 where
+  pub inside : r.value ≡ inside_constructor s.kinds
   pub node : NodeAt text (drop r.used t) s.node
 
 -- the head of the root o, which begins t
-pub record HeadOf (text t : List ℕ) (o : Root) (r : Head) : Type 0 where
-  pub allowed : r.allowed ≡ can_add_self o
+pub record HeadOf (text t : List ℕ) (o : Root) (r : Used Bool) : Type 0 where
+  pub allowed : r.value ≡ can_add_self o
   pub node : NodeAt text (drop r.used t) o.node

@@ -1,21 +1,20 @@
 // Files and standard input read whole, and lines printed: the input and output that the programs share.
 #![tactic(auto)]
 
-ghost use Rattle.std.specs.Prelude.{◌≡◌, ◌≤◌, ◌^◌, ◌<◌, [], ◌∷◌, length, take, is_ok, IsErr, OnOk};
+ghost use Rattle.std.specs.Prelude.{◌≡◌, ◌≤◌, ◌^◌, ◌<◌, [], ◌∷◌, length, take, decimal, is_ok, IsErr, OnOk};
 ghost use Rattle.std.specs.Io.KnownBytes.{Appends, Consumes};
 ghost use Rattle.printing.specs.Lines.{hex_bytes, line_of};
-ghost use Rattle.text.specs.Bytes.{ascii};
 ghost use Rattle.tape.specs.Targets.{Wrote};
 ghost use Rattle.files.specs.Fronts.{IsPrefixLen};
-ghost use Rattle.files.specs.Refusals.{decimal_in, decimal_of, refusal_line};
+ghost use Rattle.files.specs.Refusals.{refusal_line};
 ghost use Rattle.files.specs.Lines.{Prints, hex_pair};
 
 use printing::{put_bytes, put_line};
 use std::fs;
 use std::io::{Error, ErrorKind, Read, Result, Write};
 use std::rt::Files;
-use tape::refusal::{Refusal, figure, number};
-use tape::target::{put, put_two};
+use tape::refusal::Refusal;
+use tape::target::Encode;
 
 // Reads until the buffer is full, the input ends or a read fails, and tells how many bytes came. They stand at the start of the buffer.
 pub fn read_full<R: Read>(reader: &mut R, buf: &mut [u8]) -> usize
@@ -23,6 +22,7 @@ pub fn read_full<R: Read>(reader: &mut R, buf: &mut [u8]) -> usize
     ensures bytes { Consumes (R.remaining reader.old) (R.remaining reader.new) (take result buf.new) }
 {
     let mut done = 0;
+    // kept: the library's `read_exact` tells nothing of what came before the input ended.
     while done < buf.len() {
         let Ok(n) = reader.read(&mut buf[done..]) else {
             break;
@@ -90,47 +90,33 @@ pub fn print_byte<W: Write>(out: &mut W, b: u8) -> Result<()>
     out.write_all(&digits[1..])
 }
 
-// The last digits of a number, in decimal, with no zero in front.
-fn put_decimal(n: usize, digits: usize, out: &mut [u8], at: usize) -> usize
-    requires { at ≤ 2 ^ 63 }
-    ensures { Wrote out.old out.new at result (decimal_in digits n) }
-{
-    if digits == 0 {
-        return at;
-    }
-    if n < 10 {
-        return put(out, at, b'0' + n as u8);
-    }
-    let next = put_decimal(n / 10, digits - 1, out, at);
-    put(out, next, b'0' + (n % 10) as u8)
-}
-
 // Prints a number in decimal.
 pub fn print_decimal<W: Write>(out: &mut W, n: usize) -> Result<()>
-    ensures { OnOk result (Appends (W.contents out.old) (W.contents out.new) (decimal_of n)) }
+    ensures { OnOk result (Appends (W.contents out.old) (W.contents out.new) (decimal n)) }
 {
-    let mut digits = [0u8; 20];
-    let end = put_decimal(n, 20, &mut digits, 0);
-    write_front(out, &digits, end)
+    write!(out, "{n}")
 }
 
-fn put_refused(out: &mut [u8]) -> usize
-    ensures { Wrote out.old out.new 0 result (ascii "refused ") }
+// A number in decimal, with no zero in front.
+// kept: `write!` into a lent slice tells nothing of what it then holds.
+fn put_decimal(n: usize, out: &mut [u8], at: usize) -> usize
+    ensures { Wrote out.old out.new at result (decimal n) }
 {
-    let re = put_two(out, 0, b'r', b'e');
-    let refu = put_two(out, re, b'f', b'u');
-    let refuse = put_two(out, refu, b's', b'e');
-    put_two(out, refuse, b'd', b' ')
+    if n < 10 {
+        return (b'0' + n as u8).encode(out, at);
+    }
+    let next = put_decimal(n / 10, out, at);
+    (b'0' + (n % 10) as u8).encode(out, next)
 }
 
 fn put_refusal(refusal: Refusal, out: &mut [u8]) -> usize
     ensures { Wrote out.old out.new 0 result (refusal_line refusal) }
 {
-    let worded = put_refused(out);
-    let numbered = put_decimal(number(refusal) as usize, 20, out, worded);
-    let parted = put(out, numbered, b' ');
-    let figured = put_decimal(figure(refusal), 20, out, parted);
-    put(out, figured, b'\n')
+    let worded = b"refused ".encode(out, 0);
+    let numbered = put_decimal(usize::from(refusal.number()), out, worded);
+    let parted = b' '.encode(out, numbered);
+    let figured = put_decimal(refusal.figure(), out, parted);
+    b'\n'.encode(out, figured)
 }
 
 // Prints a refusal's number and figure, in the same way.

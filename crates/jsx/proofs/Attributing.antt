@@ -4,6 +4,7 @@
 --     AttributesLeft, left_begin, left_more, left_done    the loop over attributes
 --     key_none, key_some                      the value of the last key
 -- Assumes nothing.
+use Rattle.std.specs.Prelude.{Option, None, Some, Ok}
 use mathlib.Core.Path.{◌≡◌, refl, sym, ap, subst, ◌∙◌}
 use mathlib.Core.Bool.{Bool, true, false, cond, ◌||◌, ◌&&◌}
 use mathlib.Core.List.{List, [], ◌∷◌, ◌++◌}
@@ -17,7 +18,9 @@ use Rattle.text.specs.Spans.{part_of}
 use Rattle.text.proofs.Lists.{tail_part}
 use Rattle.commands.specs.declared.root.AttributeCommand.TheVariants as attributes
 use Rattle.commands.specs.Root.{attribute_command}
-use Rattle.definitions.specs.Calls as call
+use Rattle.definitions.specs.declared.call_tape.Bare.TheVariants as bare
+use Rattle.definitions.specs.declared.call_tape.WithExpression.TheVariants as with_expression
+use Rattle.definitions.specs.declared.call_tape.WithSpan.TheVariants as with_span
 use Rattle.definitions.specs.Judging.{Parsed, done}
 use Rattle.definitions.specs.Tree.{Property, Attributes, attribute, Value}
 use Rattle.definitions.specs.Reading.{properties_at, attributes_at, value_at}
@@ -26,11 +29,11 @@ use Rattle.pen.specs.declared.pen.Pen.{Pen}
 use Rattle.pen.specs.Emitting.{Called, Noticed, Produced}
 use Rattle.parts.specs.declared.jsx_impl.Props.{Props}
 use Rattle.parts.specs.Promises.{LiteralWritten, some_output}
-use Rattle.jsx.specs.Parts.{Written, Moves, ends, goes, KeyFirst, other, first, KeyAt, without_key, key_at, AttributesEnd, AttributesGo, AttributeStep, AttributesWritten}
-use Rattle.parts.proofs.Inversions.{Behind, Within, attributes_end, attributes_plain, attributes_namespaced, attributes_spread, attributes_literal}
+use Rattle.jsx.specs.Parts.{Written, KeyFirst, other, first, KeyAt, without_key, key_at, KeyWithin, AttributeMoves, AttributeStep, AttributesGo, AttributesWritten}
+use Rattle.parts.proofs.Inversions.{Behind, Within, attributes_end, attributes_error, attributes_plain, attributes_namespaced, attributes_spread, attributes_literal}
 use Rattle.jsx.proofs.Writing.{none, along, called}
-use Rattle.parts.specs.Promises.{starts_with}
-use Rattle.parts.proofs.Ends.{attributes_over}
+use Rattle.parts.specs.Promises.{starts_with, newer}
+use Rattle.parts.proofs.Ends.{attributes_over, no_attribute}
 use Rattle.jsx.proofs.Turns.{Left, left_start, left_goes, left_ends, or_assoc, or_false}
 use Rattle.jsx.proofs.Lowerings.{KeySoFar, key_start, key_goes, key_passed, property_written, classic_property}
 
@@ -61,12 +64,11 @@ value_behind_written c t n one within W f d v u h e =
 -- ---- a plain attribute
 
 -- what the code says of a key without a value, where the value reads
-abbrev pub Notice : Span → List ℕ → List ℕ → List ℕ → List ℕ → Pen → Pen → Type 0
-Notice s text t ns ns' p p' =
-    (k : Context) → k.text ≡ text → (f d : ℕ) (v : Value) (u : ℕ) → value_at f text d t ≡ done v u → Noticed (key_notice k s v) ns ns' p p'
+abbrev pub Notice : Context → Span → List ℕ → List ℕ → List ℕ → Pen → Pen → Type 0
+Notice c s t ns ns' p p' = (f d : ℕ) (v : Value) (u : ℕ) → value_at f c.text d t ≡ done v u → Noticed (key_notice c s v) ns ns' p p'
 
 pub plain_written : (c : Context) (t : List ℕ) (s : Span) {cs cs₁ cs₂ ns ns₁ ns₂ : List ℕ} {p p₁ p₂ p₃ : Pen} {used : ℕ} → length cs ≤ 2 ^ 63 → length ns ≤ 2 ^ 63
-    → Notice s c.text (part 5 t) ns ns₁ p p₁ → ((k : Context) → k.text ≡ c.text → Called (attribute_name k s) cs cs₁ p₁ p₂)
+    → Notice c s (part 5 t) ns ns₁ p p₁ → Called (attribute_name c s) cs cs₁ p₁ p₂
     → ((f d : ℕ) (v : Value) (u : ℕ) → length t ≤ f → value_at f c.text d (drop 5 t) ≡ done v u → Written (lower_value c v) (5 + u) cs₁ cs₂ ns₁ ns₂ p₂ p₃ used)
     → (f d : ℕ) (v : Value) (u : ℕ) → length t ≤ f → value_at f c.text d (drop 5 t) ≡ done v u
     → Written (key_notice c s v ++ attribute_name c s ++ lower_value c v) (5 + u) cs cs₂ ns ns₂ p p₃ used
@@ -76,7 +78,7 @@ plain_written c t s {cs} {ns₁ = ns₁} short short' N A W f d v u h e =
       taken = w.taken;
       wrote =
           along short short'
-          (along short short' (noticed cs (N c refl f d v u (in_part (λ (l : List ℕ). value_at f c.text d l) 5 t e))) (called ns₁ (A c refl)))
+          (along short short' (noticed cs (N f d v u (in_part (λ (l : List ℕ). value_at f c.text d l) 5 t e))) (called ns₁ A))
           w.wrote;
     }
 
@@ -101,7 +103,7 @@ some_named : (c : Context) (s : Span) → some_output (attribute_name c s) ≡ t
 unfolding some_output attribute_name
 some_named c s = go (is_found (find (eqb 0x2d) (part_of c.text s)))
   where
-    go : (b : Bool) → some_output (cond b (put call.string_name ++ quoted (piece s)) (put_span call.name s)) ≡ true
+    go : (b : Bool) → some_output (cond b (put bare.StringName ++ quoted (piece s)) (put_span with_span.Name s)) ≡ true
     go true = refl
     go false = refl
 
@@ -113,106 +115,123 @@ some_plain c s v = sym (some_behind (key_notice c s v ++ attribute_name c s) (lo
 module _ (c : Context) (classic : Bool) (d : ℕ) (t : List ℕ) {cs cs' ns ns' : List ℕ} {p : Pen} {f u : ℕ} {a : Attributes} (r : Props) where
   -- what was read by parts, the rest behind the bytes that are passed
   goes_within : {B : Type 0} {inner : ℕ → List ℕ → Parsed B} {g : B → Attributes → Attributes} {m : ℕ}
-      (W : Within inner (λ h l. attributes_at h c.text d l) t f a u m g) → r.last ≡ false → r.used ≡ m + W.took → (os : List Output)
+      (W : Within inner (λ h l. attributes_at h c.text d l) t f a u m g) → r.used ≡ m + W.took → (os : List Output)
       → lower_attributes c classic (g W.part W.rest) ≡ os ++ lower_attributes c classic W.rest → r.some ≡ some_output os
       → KeyFirst c d t r.key W.fuel (g W.part W.rest) W.rest → Produced os cs cs' ns ns' p r.pen
       → AttributeStep c classic d t cs cs' ns ns' p r f a u
-  goes_within {m = m} W l n os o s k w =
+  goes_within {m = m} W n os o s k w =
       let out : lower_attributes c classic a ≡ os ++ lower_attributes c classic W.rest = ap (lower_attributes c classic) W.is ∙ o in
-      goes l W.fuel W.turns W.rest W.size (ap (λ (q : ℕ). attributes_at W.fuel c.text d (drop q t)) n ∙ W.reads)
-      (W.used ∙ ap (λ (q : ℕ). q + W.size) (sym n)) os out (
-        ap some_output out ∙ some_append os (lower_attributes c classic W.rest) ∙ ap (λ (b : Bool). b || some_output (lower_attributes c classic W.rest)) (sym s),
-        subst (λ (x : Attributes). KeyFirst c d t r.key W.fuel x W.rest) (sym W.is) k,
-      )
-      w
+      record {
+        fuel = W.fuel;
+        turns = W.turns;
+        rest = W.rest;
+        size = W.size;
+        reads = ap (λ (q : ℕ). attributes_at W.fuel c.text d (drop q t)) n ∙ W.reads;
+        used = W.used ∙ ap (λ (q : ℕ). q + W.size) (sym n);
+        output = os;
+        outs = out;
+        goes = (
+          ap some_output out ∙ some_append os (lower_attributes c classic W.rest) ∙ ap (λ (b : Bool). b || some_output (lower_attributes c classic W.rest)) (sym s),
+          subst (λ (x : Attributes). KeyFirst c d t r.key W.fuel x W.rest) (sym W.is) k,
+        );
+        wrote = w;
+      }
 
-  goes_behind : {g : Attributes → Attributes} {m : ℕ} (W : Behind (λ h l. attributes_at h c.text d l) t f a u m g) → r.last ≡ false → r.used ≡ m → (os : List Output)
+  goes_behind : {g : Attributes → Attributes} {m : ℕ} (W : Behind (λ h l. attributes_at h c.text d l) t f a u m g) → r.used ≡ m → (os : List Output)
       → lower_attributes c classic (g W.rest) ≡ os ++ lower_attributes c classic W.rest → r.some ≡ some_output os
       → KeyFirst c d t r.key W.fuel (g W.rest) W.rest → Produced os cs cs' ns ns' p r.pen
       → AttributeStep c classic d t cs cs' ns ns' p r f a u
-  goes_behind {m = m} W l n os o s k w =
+  goes_behind {m = m} W n os o s k w =
       let out : lower_attributes c classic a ≡ os ++ lower_attributes c classic W.rest = ap (lower_attributes c classic) W.is ∙ o in
-      goes l W.fuel W.turns W.rest W.size (ap (λ (q : ℕ). attributes_at W.fuel c.text d (drop q t)) n ∙ W.reads)
-      (W.used ∙ ap (λ (q : ℕ). q + W.size) (sym n)) os out (
-        ap some_output out ∙ some_append os (lower_attributes c classic W.rest) ∙ ap (λ (b : Bool). b || some_output (lower_attributes c classic W.rest)) (sym s),
-        subst (λ (x : Attributes). KeyFirst c d t r.key W.fuel x W.rest) (sym W.is) k,
-      )
-      w
+      record {
+        fuel = W.fuel;
+        turns = W.turns;
+        rest = W.rest;
+        size = W.size;
+        reads = ap (λ (q : ℕ). attributes_at W.fuel c.text d (drop q t)) n ∙ W.reads;
+        used = W.used ∙ ap (λ (q : ℕ). q + W.size) (sym n);
+        output = os;
+        outs = out;
+        goes = (
+          ap some_output out ∙ some_append os (lower_attributes c classic W.rest) ∙ ap (λ (b : Bool). b || some_output (lower_attributes c classic W.rest)) (sym s),
+          subst (λ (x : Attributes). KeyFirst c d t r.key W.fuel x W.rest) (sym W.is) k,
+        );
+        wrote = w;
+      }
 
 -- a key with a value, or none
 module _ (c : Context) (s : Span) (v : Value) (b : Attributes) (os : List Output) where
-  key_valued : (is_key c s && has_value v) ≡ true → lower_key c (attribute s v b) os ≡ lower_key c b (put call.key ++ lower_value c v)
+  key_valued : (is_key c s && has_value v) ≡ true → lower_key c (attribute s v b) os ≡ lower_key c b (put bare.Key ++ lower_value c v)
   unfolding lower_key
   key_valued h = go (is_key c s && has_value v) h
     where
-      go : (x : Bool) → x ≡ true → lower_key c b (cond x (put call.key ++ lower_value c v) os) ≡ lower_key c b (put call.key ++ lower_value c v)
+      go : (x : Bool) → x ≡ true → lower_key c b (cond x (put bare.Key ++ lower_value c v) os) ≡ lower_key c b (put bare.Key ++ lower_value c v)
       go x h = rw h refl
 
   key_unvalued : (is_key c s && has_value v) ≡ false → lower_key c (attribute s v b) os ≡ lower_key c b os
   unfolding lower_key
   key_unvalued h = go (is_key c s && has_value v) h
     where
-      go : (x : Bool) → x ≡ false → lower_key c b (cond x (put call.key ++ lower_value c v) os) ≡ lower_key c b os
+      go : (x : Bool) → x ≡ false → lower_key c b (cond x (put bare.Key ++ lower_value c v) os) ≡ lower_key c b os
       go x h = rw h refl
 
 -- what the code says of a key, behind five bytes of t
 abbrev pub Valued : Context → List ℕ → Span → Bool → Type 0
-Valued c t s valued =
-    (k : Context) → k.text ≡ c.text → (f d : ℕ) (v : Value) (u : ℕ) → value_at f c.text d (part 5 t) ≡ done v u → valued ≡ (is_key k s && has_value v)
+Valued c t s valued = (f d : ℕ) (v : Value) (u : ℕ) → value_at f c.text d (part 5 t) ≡ done v u → valued ≡ (is_key c s && has_value v)
 
 -- what the code says of a plain attribute that is written
-abbrev pub Facts : ℕ → ℕ → ℕ → Props → Type 0
-Facts len n key r = (r.key ≡ key) × (r.some ≡ true) × (r.last ≡ false) × (n ≤ r.used) × (r.used ≤ len)
+abbrev pub Facts : ℕ → ℕ → Option ℕ → Props → Type 0
+Facts len n key r = (r.key ≡ key) × (r.some ≡ true) × (n ≤ r.used) × (r.used ≤ len)
 
-pub facts_moves : {len n key : ℕ} (r : Props) → Facts len n key r → 1 ≤ n → key ≤ n → Moves len r.used r.last × (r.key ≤ r.used)
-facts_moves r F one h = (record { inside = F.4; onward = λ l. omega (arith, F.3) }, omega (arith, F.0, F.3))
+-- a key that was found is within what was used
+pub key_at_most : (used : ℕ) {key : Option ℕ} (k : Option ℕ) → k ≡ key → KeyWithin used key → KeyWithin used k
+key_at_most used k e h = subst (KeyWithin used) (sym e) h
 
-pub passed_moves : (t : List ℕ) {p : Pen} {took : ℕ} (r : Props) → r ≡ record { pen = p; used = 5 + took; last = false; some = false; key = 5 } → 5 ≤ length t
-    → took ≤ length (part 5 t) → Moves (length t) r.used r.last × (r.key ≤ r.used)
-passed_moves t {took = took} r e five h =
-    rw e (record { inside = omega (arith, part_size 5 t); onward = λ l. omega arith }, omega arith)
+pub facts_moves : {len n : ℕ} {key : Option ℕ} (r : Props) → Facts len n key r → 1 ≤ n → KeyWithin r.used key → AttributeMoves len r
+facts_moves r F one h = (F.3, omega (arith, F.2), key_at_most r.used r.key F.0 h)
 
-pub literal_moves : {len : ℕ} (r : Props) → (r.key ≡ 0) × (r.last ≡ false) × (3 ≤ r.used) × (r.used ≤ len) → Moves len r.used r.last × (r.key ≤ r.used)
-literal_moves r F = (record { inside = F.3; onward = λ l. omega (arith, F.2) }, omega (arith, F.0))
+pub passed_moves : (t : List ℕ) {p : Pen} {took : ℕ} (r : Props) → r ≡ record { pen = p; used = 5 + took; some = false; key = Some 5 } → 5 ≤ length t
+    → took ≤ length (part 5 t) → AttributeMoves (length t) r
+passed_moves t {took = took} r e five h = rw e (omega (arith, part_size 5 t), omega arith, omega arith)
 
-pub ended : {B : Type 0} → true ≡ false → B
-ended l = let z : ◌≡◌ {A = ℕ} 0 1 = cc in absurd (omega arith)
+pub unread_moves : {len : ℕ} {p : Pen} (r : Props) → r ≡ record { pen = p; used = len; some = false; key = None } → 1 ≤ len → AttributeMoves len r
+unread_moves r e one = rw e (omega arith, one, tt)
 
 abbrev pub PlainWritten : Context → List ℕ → Span → List ℕ → List ℕ → List ℕ → List ℕ → Pen → Props → Type 0
 PlainWritten c t s cs cs' ns ns' p r =
     (f d : ℕ) (v : Value) (u : ℕ) → length t ≤ f → value_at f c.text d (drop 5 t) ≡ done v u
     → Written (key_notice c s v ++ attribute_name c s ++ lower_value c v) (5 + u) cs cs' ns ns' p r.pen r.used
 
-module _ (c : Context) (classic : Bool) (t : List ℕ) (s : Span) (front : attribute_command t ≡ attributes.Plain s) (valued : Bool) (K : Valued c t s valued)
+module _ (c : Context) (classic : Bool) (t : List ℕ) (s : Span) (front : attribute_command t ≡ Ok (attributes.Plain s)) (valued : Bool) (K : Valued c t s valued)
     {cs cs' ns ns' : List ℕ} {p : Pen} (r : Props) where
   -- a key with a value in a classic call
-  pub plain_key : valued ≡ true → classic ≡ true → {len : ℕ} → Facts len 5 5 r → PlainWritten c t s cs cs' ns ns' p r
+  pub plain_key : valued ≡ true → classic ≡ true → {len : ℕ} → Facts len 5 (Some 5) r → PlainWritten c t s cs cs' ns ns' p r
       → (f d : ℕ) (a : Attributes) (u : ℕ) → length t < f → attributes_at f c.text d t ≡ done a u → AttributeStep c classic d t cs cs' ns ns' p r f a u
   plain_key so cl F P f d a u h e =
       let W = attributes_plain c.text t d f s front e in
       let w = P W.fuel d W.part W.took (omega (arith, W.turns)) W.part_reads in
       let valued_key : (is_key c s && has_value W.part) ≡ true =
-      sym (K c refl W.fuel d W.part W.took (in_part (λ (l : List ℕ). value_at W.fuel c.text d l) 5 t W.part_reads)) ∙ so in
-      goes_within c classic d t r W F.2 w.taken (key_notice c s W.part ++ attribute_name c s ++ lower_value c W.part)
+      sym (K W.fuel d W.part W.took (in_part (λ (l : List ℕ). value_at W.fuel c.text d l) 5 t W.part_reads)) ∙ so in
+      goes_within c classic d t r W w.taken (key_notice c s W.part ++ attribute_name c s ++ lower_value c W.part)
       (classic_property c classic s W.part W.rest cl) (F.1 ∙ some_plain c s W.part)
-      (first W.part W.took (omega (arith, F.0)) (ap (λ (q : ℕ). value_at W.fuel c.text d (drop q t)) F.0 ∙ W.part_reads)
+      (first 5 W.part W.took F.0 (omega arith) W.part_reads
       (λ os. key_valued c s W.part W.rest os valued_key))
       w.wrote
 
   -- no key with a value
-  pub plain_property : valued ≡ false → {len : ℕ} → Facts len 5 0 r → PlainWritten c t s cs cs' ns ns' p r
+  pub plain_property : valued ≡ false → {len : ℕ} → Facts len 5 None r → PlainWritten c t s cs cs' ns ns' p r
       → (f d : ℕ) (a : Attributes) (u : ℕ) → length t < f → attributes_at f c.text d t ≡ done a u → AttributeStep c classic d t cs cs' ns ns' p r f a u
   plain_property so F P f d a u h e =
       let W = attributes_plain c.text t d f s front e in
       let w = P W.fuel d W.part W.took (omega (arith, W.turns)) W.part_reads in
       let un_key : (is_key c s && has_value W.part) ≡ false =
-      sym (K c refl W.fuel d W.part W.took (in_part (λ (l : List ℕ). value_at W.fuel c.text d l) 5 t W.part_reads)) ∙ so in
-      goes_within c classic d t r W F.2 w.taken (key_notice c s W.part ++ attribute_name c s ++ lower_value c W.part)
+      sym (K W.fuel d W.part W.took (in_part (λ (l : List ℕ). value_at W.fuel c.text d l) 5 t W.part_reads)) ∙ so in
+      goes_within c classic d t r W w.taken (key_notice c s W.part ++ attribute_name c s ++ lower_value c W.part)
       (property_written c classic s W.part W.rest un_key) (F.1 ∙ some_plain c s W.part) (other F.0 (λ os. key_unvalued c s W.part W.rest os un_key))
       w.wrote
 
-module _ (c : Context) (classic : Bool) (t : List ℕ) (s : Span) (front : attribute_command t ≡ attributes.Plain s) (valued : Bool) (K : Valued c t s valued)
-    {cs ns : List ℕ} {p : Pen} {took : ℕ} (r : Props) (is : r ≡ record { pen = p; used = 5 + took; last = false; some = false; key = 5 }) where
+module _ (c : Context) (classic : Bool) (t : List ℕ) (s : Span) (front : attribute_command t ≡ Ok (attributes.Plain s)) (valued : Bool) (K : Valued c t s valued)
+    {cs ns : List ℕ} {p : Pen} {took : ℕ} (r : Props) (is : r ≡ record { pen = p; used = 5 + took; some = false; key = Some 5 }) where
   -- a key with a value in an automatic call is no property
   pub plain_passed : valued ≡ true → classic ≡ false → 5 ≤ length t
       → ((f : ℕ) (text : List ℕ) (d : ℕ) (v : Value) (u : ℕ) → length (part 5 t) < f → value_at f text d (part 5 t) ≡ done v u → took ≡ u)
@@ -221,18 +240,18 @@ module _ (c : Context) (classic : Bool) (t : List ℕ) (s : Span) (front : attri
   plain_passed so cl five S f d a u h e =
       let W = attributes_plain c.text t d f s front e in
       let reads : value_at W.fuel c.text d (part 5 t) ≡ done W.part W.took = in_part (λ (l : List ℕ). value_at W.fuel c.text d l) 5 t W.part_reads in
-      let valued_key : (is_key c s && has_value W.part) ≡ true = sym (K c refl W.fuel d W.part W.took reads) ∙ so in
+      let valued_key : (is_key c s && has_value W.part) ≡ true = sym (K W.fuel d W.part W.took reads) ∙ so in
       let n : took ≡ W.took = S W.fuel c.text d W.part W.took (omega (arith, W.turns, part_size 5 t)) reads in
-      let step : AttributeStep c classic d t cs cs ns ns p (record { pen = p; used = 5 + took; last = false; some = false; key = 5 }) f a u =
-      goes_within c classic d t (record { pen = p; used = 5 + took; last = false; some = false; key = 5 }) W refl (ap (λ (q : ℕ). 5 + q) n) []
+      let step : AttributeStep c classic d t cs cs ns ns p (record { pen = p; used = 5 + took; some = false; key = Some 5 }) f a u =
+      goes_within c classic d t (record { pen = p; used = 5 + took; some = false; key = Some 5 }) W (ap (λ (q : ℕ). 5 + q) n) []
       (key_passed c classic s W.part W.rest valued_key cl) refl
-      (first W.part W.took (omega arith) W.part_reads (λ os. key_valued c s W.part W.rest os valued_key))
+      (first 5 W.part W.took refl (omega arith) W.part_reads (λ os. key_valued c s W.part W.rest os valued_key))
       (none cs ns p) in
       subst (λ (q : Props). AttributeStep c classic d t cs cs ns ns p q f a u) (sym is) step
 
 module _ (c : Context) (classic : Bool) (t : List ℕ) where
-  pub namespaced_step : (s z : Span) → attribute_command t ≡ attributes.Namespaced s z → {cs cs₁ cs₂ cs₃ ns ns' : List ℕ} {p p₁ p₂ : Pen} → length cs ≤ 2 ^ 63
-      → length ns ≤ 2 ^ 63 → Called (put call.string_name) cs cs₁ p p₁ → Called (colonized s z) cs₁ cs₂ p₁ p₂ → (r : Props) {len : ℕ} → Facts len 9 0 r
+  pub namespaced_step : (s z : Span) → attribute_command t ≡ Ok (attributes.Namespaced s z) → {cs cs₁ cs₂ cs₃ ns ns' : List ℕ} {p p₁ p₂ : Pen} → length cs ≤ 2 ^ 63
+      → length ns ≤ 2 ^ 63 → Called (put bare.StringName) cs cs₁ p p₁ → Called (colonized s z) cs₁ cs₂ p₁ p₂ → (r : Props) {len : ℕ} → Facts len 9 None r
       → ((f d : ℕ) (v : Value) (u : ℕ) → length t ≤ f → value_at f c.text d (drop 9 t) ≡ done v u
       → Written (lower_value c v) (9 + u) cs₂ cs₃ ns ns' p₂ r.pen r.used)
       → (f d : ℕ) (a : Attributes) (u : ℕ) → length t < f → attributes_at f c.text d t ≡ done a u → AttributeStep c classic d t cs cs₃ ns ns' p r f a u
@@ -240,112 +259,102 @@ module _ (c : Context) (classic : Bool) (t : List ℕ) where
   namespaced_step s z front {ns = ns} short short' N C r F P f d a u h e =
       let W = attributes_namespaced c.text t d f s z front e in
       let w = P W.fuel d W.part W.took (omega (arith, W.turns)) W.part_reads in
-      goes_within c classic d t r W F.2 w.taken (put call.string_name ++ colonized s z ++ lower_value c W.part) refl F.1 (other F.0 (λ os. refl))
+      goes_within c classic d t r W w.taken (put bare.StringName ++ colonized s z ++ lower_value c W.part) refl F.1 (other F.0 (λ os. refl))
       (along short short' (along short short' (called ns N) (called ns C)) w.wrote)
 
-  pub spread_step : (x : ℕ) → attribute_command t ≡ attributes.Spread x → {cs cs' ns : List ℕ} {p : Pen} (q : Pen) → Called (put_over call.spread_property x) cs cs' p q
+  pub spread_step : (x : ℕ) → attribute_command t ≡ Ok (attributes.Spread x) → {cs cs' ns : List ℕ} {p : Pen} (q : Pen) → Called (put_over with_expression.SpreadProperty x) cs cs' p q
       → (f d : ℕ) (a : Attributes) (u : ℕ) → length t < f → attributes_at f c.text d t ≡ done a u
-      → AttributeStep c classic d t cs cs' ns ns p (record { pen = q; used = 3; last = false; some = true; key = 0 }) f a u
+      → AttributeStep c classic d t cs cs' ns ns p (record { pen = q; used = 3; some = true; key = None }) f a u
   unfolding lower_attributes lower_key some_output
   spread_step x front {ns = ns} q w f d a u h e =
       let W = attributes_spread c.text t d f x front e in
-      goes_behind c classic d t (record { pen = q; used = 3; last = false; some = true; key = 0 }) W refl refl (put_over call.spread_property x) refl refl
+      goes_behind c classic d t (record { pen = q; used = 3; some = true; key = None }) W refl (put_over with_expression.SpreadProperty x) refl refl
       (other refl (λ os. refl)) (called ns w)
 
-  pub literal_step : (x : ℕ) → attribute_command t ≡ attributes.Literal x → {cs cs' ns : List ℕ} {p : Pen} (r : Props) → r.key ≡ 0 → r.last ≡ false
-      → ((k : Context) → k.text ≡ c.text → (f : ℕ) (ps : List Property) (u : ℕ) → length t ≤ f → properties_at f c.text (drop 3 t) ≡ done ps u
-      → LiteralWritten (lower_literal k x ps) (3 + u) cs cs' p r)
+  pub literal_step : (x : ℕ) → attribute_command t ≡ Ok (attributes.Literal x) → {cs cs' ns : List ℕ} {p : Pen} (r : Props) → r.key ≡ None
+      → ((f : ℕ) (ps : List Property) (u : ℕ) → length t ≤ f → properties_at f c.text (drop 3 t) ≡ done ps u
+      → LiteralWritten (lower_literal c x ps) (3 + u) cs cs' p r)
       → (f d : ℕ) (a : Attributes) (u : ℕ) → length t < f → attributes_at f c.text d t ≡ done a u → AttributeStep c classic d t cs cs' ns ns p r f a u
   unfolding lower_attributes lower_key
-  literal_step x front {ns = ns} r k l L f d a u h e =
+  literal_step x front {ns = ns} r k L f d a u h e =
       let W = attributes_literal c.text t d f x front e in
-      let w = L c refl W.fuel W.part W.took (omega (arith, W.turns)) W.part_reads in
-      goes_within c classic d t r W l w.taken (lower_literal c x W.part) refl w.flagged (other k (λ os. refl)) (called ns w.wrote)
-
-  pub end_step : attribute_command t ≡ attributes.End → {cs ns : List ℕ} (p : Pen) → (f d : ℕ) (a : Attributes) (u : ℕ) → length t < f → attributes_at f c.text d t ≡ done a u
-      → AttributeStep c classic d t cs cs ns ns p (record { pen = p; used = 1; last = true; some = false; key = 0 }) f a u
-  unfolding lower_attributes lower_key some_output
-  end_step front {cs} {ns} p f d a u h e =
-      let W = attributes_end c.text t d f front e in
-      let out : lower_attributes c classic a ≡ [] = ap (lower_attributes c classic) W.0 in
-      ends refl W.1 out (ap some_output out, refl, λ os. ap (λ (b : Attributes). lower_key c b os) W.0) (none cs ns p)
+      let w = L W.fuel W.part W.took (omega (arith, W.turns)) W.part_reads in
+      goes_within c classic d t r W w.taken (lower_literal c x W.part) refl w.flagged (other k (λ os. refl)) (called ns w.wrote)
 
 -- ---- the loop over attributes
 
 -- what was found in the attributes before `rest`
-pub record Gathered (c : Context) (classic : Bool) (d : ℕ) (t : List ℕ) (a : Attributes) (some : Bool) (key : ℕ) (rest : Attributes) : Type 0 where
+pub record Gathered (c : Context) (classic : Bool) (d : ℕ) (t : List ℕ) (a : Attributes) (some : Bool) (key : Option ℕ) (rest : Attributes) : Type 0 where
   pub flags : some_output (lower_attributes c classic a) ≡ (some || some_output (lower_attributes c classic rest))
   pub keys : (given : List Output) → KeySoFar c d t a given key rest
 
-abbrev pub AttributesLeft : Context → Bool → ℕ → List ℕ → Attributes → ℕ → List ℕ → List ℕ → List ℕ → List ℕ → Pen → Pen → ℕ → Bool → ℕ → Type 0
+abbrev pub AttributesLeft : Context → Bool → ℕ → List ℕ → Attributes → ℕ → List ℕ → List ℕ → List ℕ → List ℕ → Pen → Pen → ℕ → Bool → Option ℕ → Type 0
 AttributesLeft c classic d t a u cs₀ cs ns₀ ns p₀ p i some key =
     Left (λ g l. attributes_at g c.text d l) (lower_attributes c classic) (Gathered c classic d t a some key) t a u cs₀ cs ns₀ ns p₀ p i
 
 pub left_begin : (c : Context) (classic : Bool) (t cs ns : List ℕ) (p : Pen) (f d : ℕ) (a : Attributes) (u : ℕ) → length t < f → attributes_at f c.text d t ≡ done a u
-    → AttributesLeft c classic d t a u cs cs ns ns p p 0 false 0
+    → AttributesLeft c classic d t a u cs cs ns ns p p 0 false None
 left_begin c classic t cs ns p f d a u h e =
     left_start (λ g l. attributes_at g c.text d l) (lower_attributes c classic) t f a u cs ns p h e (record { flags = refl; keys = λ given. key_start c d t a given })
 
-pub key_within : (len i key k used now : ℕ) → i ≤ len → key ≤ len → k ≤ used → used ≤ len - i → now ≡ cond (eqb k 0) key (i + k) → now ≤ len
-key_within len i key k used now within kept h n e = rw e (go (eqb k 0))
-  where
-    go : (b : Bool) → cond b key (i + k) ≤ len
-    go true = kept
-    go false = omega arith
+pub key_within : (len i : ℕ) (key k : Option ℕ) (used : ℕ) {now : Option ℕ} → KeyWithin len key → KeyWithin used k → i + used ≤ len → now ≡ newer i k key → KeyWithin len now
+unfolding newer
+key_within len i key (Some k) used kept h n e = rw e (omega arith)
+key_within len i key None used kept h n e = rw e kept
 
-module _ (c : Context) (classic : Bool) (t : List ℕ) {cs₀ cs cs₁ ns₀ ns ns₁ : List ℕ} {p₀ p : Pen} {i : ℕ} {some : Bool} {key now : ℕ} (r : Props) (within : i ≤ length t)
-    (short : length cs₀ ≤ 2 ^ 63) (short' : length ns₀ ≤ 2 ^ 63)
-    (step : (f d : ℕ) (a : Attributes) (u : ℕ) → length (part i t) < f → attributes_at f c.text d (part i t) ≡ done a u
-    → AttributeStep c classic d (part i t) cs cs₁ ns ns₁ p r f a u) (newer : now ≡ cond (eqb r.key 0) key (i + r.key)) where
-  pub left_more : (d : ℕ) (a : Attributes) (u : ℕ) → AttributesLeft c classic d t a u cs₀ cs ns₀ ns p₀ p i some key → r.last ≡ false → 1 ≤ r.used
+module _ (c : Context) (classic : Bool) (t : List ℕ) {cs₀ cs ns₀ ns : List ℕ} {p₀ p : Pen} {i : ℕ} {some : Bool} {key : Option ℕ} (within : i ≤ length t) where
+  pub left_more : {cs₁ ns₁ : List ℕ} {now : Option ℕ} (r : Props) → length cs₀ ≤ 2 ^ 63 → length ns₀ ≤ 2 ^ 63
+      → ((f d : ℕ) (a : Attributes) (u : ℕ) → length (part i t) < f → attributes_at f c.text d (part i t) ≡ done a u
+      → AttributeStep c classic d (part i t) cs cs₁ ns ns₁ p r f a u)
+      → now ≡ newer i r.key key → 1 ≤ r.used → (d : ℕ) (a : Attributes) (u : ℕ) → AttributesLeft c classic d t a u cs₀ cs ns₀ ns p₀ p i some key
       → AttributesLeft c classic d t a u cs₀ cs₁ ns₀ ns₁ p₀ r.pen (i + r.used) (some || r.some) now
-  left_more d a u R l pos =
-      left_goes (λ g l. attributes_at g c.text d l) (lower_attributes c classic) t (part i t) (tail_part t i) within (λ f a u. step f d a u) short short' R l pos keep
+  left_more {now = now} r short short' step newest pos d a u R =
+      left_goes (λ g l. attributes_at g c.text d l) (lower_attributes c classic) t (part i t) (tail_part t i) (λ f a u. step f d a u) short short' within R pos keep
     where
       keep : (f : ℕ) (y z : Attributes) → length t < i + suc f → AttributesGo c classic d r (drop i t) f y z → Gathered c classic d t a some key y
           → Gathered c classic d t a (some || r.some) now z
       keep f y z enough G S = record {
         flags = S.flags ∙ ap (λ (b : Bool). some || b) G.0 ∙ or_assoc some r.some (some_output (lower_attributes c classic z));
-        keys = λ given. rw newer (key_goes c d t a given i key r.key f y z enough G.1 (S.keys given));
+        keys = λ given. rw newest (key_goes c d t a given i key r.key f y z enough G.1 (S.keys given));
       }
 
-  pub left_done : (d : ℕ) (a : Attributes) (u : ℕ) → AttributesLeft c classic d t a u cs₀ cs ns₀ ns p₀ p i some key → r.last ≡ true
-      → AttributesWritten c classic d t a u cs₀ cs₁ ns₀ ns₁ p₀ (record { pen = r.pen; used = i + r.used; last = true; some = some || r.some; key = now })
-  left_done d a u R l =
-      let W = left_ends (λ g l. attributes_at g c.text d l) (lower_attributes c classic) t (part i t) (tail_part t i) within (λ f a u. step f d a u) short short' R l keep in
-      record { taken = sym W.0; flagged = W.2.0; keyed = W.2.1; wrote = W.1 }
-    where
-      keep : (y : Attributes) → AttributesEnd c classic r y → Gathered c classic d t a some key y
-          → ((some || r.some) ≡ some_output (lower_attributes c classic a)) × ((given : List Output) → KeyAt c d t given now (lower_key c a given))
-      keep y E S = (
-        sym (S.flags ∙ ap (λ (b : Bool). some || b) E.0),
-        λ given. let k = S.keys given in let same : lower_key c a given ≡ k.output = k.same ∙ E.2 k.output in
-            let n : now ≡ key = newer ∙ ap (λ (q : ℕ). cond (eqb q 0) key (i + q)) E.1 in
-            rw (same, n) k.place,
-      )
+  -- the end, seen by its first byte
+  pub left_over : starts_with 0x1e (part i t) ≡ true → (d : ℕ) (a : Attributes) (u : ℕ) → AttributesLeft c classic d t a u cs₀ cs ns₀ ns p₀ p i some key
+      → AttributesWritten c classic d t a u cs₀ cs ns₀ ns p₀ (record { pen = p; used = i + 1; some = some; key = key })
+  unfolding lower_attributes some_output lower_key
+  left_over over d a u R =
+      let z =
+      attributes_end c.text (drop i t) d R.fuel (attributes_over (drop i t) (ap (starts_with 0x1e) (sym (tail_part t i)) ∙ over)) R.reads in
+      record {
+        taken = omega (arith, R.used, z.1);
+        flagged = sym (R.also.flags ∙ ap (λ (b : Attributes). some || some_output (lower_attributes c classic b)) z.0 ∙ or_false some);
+        keyed = λ given.
+            let k = R.also.keys given in
+            let same : lower_key c a given ≡ k.output = k.same ∙ ap (λ (b : Attributes). lower_key c b k.output) z.0 in
+            rw same k.place;
+        wrote = left_ends (λ g l. attributes_at g c.text d l) (lower_attributes c classic) t R (ap (lower_attributes c classic) z.0);
+      }
 
--- the end, seen by its first byte
-pub left_over : (c : Context) (classic : Bool) (t : List ℕ) {cs₀ cs ns₀ ns : List ℕ} {p₀ p : Pen} {i : ℕ} {some : Bool} {key : ℕ} → i ≤ length t
-    → length cs₀ ≤ 2 ^ 63 → length ns₀ ≤ 2 ^ 63 → starts_with 0x1e (part i t) ≡ true → (d : ℕ) (a : Attributes) (u : ℕ)
-    → AttributesLeft c classic d t a u cs₀ cs ns₀ ns p₀ p i some key
-    → AttributesWritten c classic d t a u cs₀ cs ns₀ ns p₀ (record { pen = p; used = i + 1; last = true; some = some; key = key })
-left_over c classic t {cs₀} {cs} {ns₀} {ns} {p₀} {p} {i} {some} {key} within short short' over d a u R =
-    subst (λ (b : Bool). AttributesWritten c classic d t a u cs₀ cs ns₀ ns p₀ (record { pen = p; used = i + 1; last = true; some = b; key = key })) (or_false some)
-    (left_done c classic t {now = key} (record { pen = p; used = 1; last = true; some = false; key = 0 }) within short short'
-    (λ f d a u h e. end_step c classic (part i t) (attributes_over (part i t) over) p f d a u h e) refl d a u R refl)
+  -- a tape that reads goes on to the end
+  pub left_never : {A : Type 0} → length (part i t) ≡ 0 → (d : ℕ) (a : Attributes) (u : ℕ) → AttributesLeft c classic d t a u cs₀ cs ns₀ ns p₀ p i some key → A
+  left_never empty d a u R =
+      absurd
+      (attributes_error c.text (part i t) d R.fuel (no_attribute (part i t) empty) (in_part (λ (l : List ℕ). attributes_at R.fuel c.text d l) i t R.reads))
 
 -- ---- the value of the last key
 
-pub key_none : {c : Context} {t cs cs' ns : List ℕ} {p p' : Pen} (key : ℕ) → key ≡ 0 → Called (no_key c) cs cs' p p' → (d : ℕ) (os : List Output)
+pub key_none : {c : Context} {t cs cs' ns : List ℕ} {p p' : Pen} (key : Option ℕ) → key ≡ None → Called (no_key c) cs cs' p p' → (d : ℕ) (os : List Output)
     → KeyAt c d t (no_key c) key os → Produced os cs cs' ns ns p p'
 key_none {ns = ns} key z w d os without_key = called ns w
-key_none key z w d os (key_at q g u v enough one reads) = absurd (omega arith)
+key_none key z w d os (key_at q g u v enough reads) = let z : ◌≡◌ {A = ℕ} 0 1 = cc in absurd (omega arith)
 
-pub key_some : {c : Context} {t cs cs₁ cs₂ ns ns₁ : List ℕ} {p p₁ p₂ : Pen} {used : ℕ} (key : ℕ) → key ≤ length t → length cs ≤ 2 ^ 63 → length ns ≤ 2 ^ 63 → (key ≡ 0 → ⊥)
-    → Called (put call.key) cs cs₁ p p₁
-    → ((f d : ℕ) (v : Value) (u : ℕ) → length (part key t) < f → value_at f c.text d (part key t) ≡ done v u → Written (lower_value c v) u cs₁ cs₂ ns ns₁ p₁ p₂ used)
+pub key_some : {c : Context} {t cs cs₁ cs₂ ns ns₁ : List ℕ} {p p₁ p₂ : Pen} {used : ℕ} (at : ℕ) (key : Option ℕ) → key ≡ Some at → at ≤ length t → length cs ≤ 2 ^ 63 → length ns ≤ 2 ^ 63
+    → Called (put bare.Key) cs cs₁ p p₁
+    → ((f d : ℕ) (v : Value) (u : ℕ) → length (part at t) < f → value_at f c.text d (part at t) ≡ done v u → Written (lower_value c v) u cs₁ cs₂ ns ns₁ p₁ p₂ used)
     → (d : ℕ) (os : List Output) → KeyAt c d t (no_key c) key os → Produced os cs cs₂ ns ns₁ p p₂
-key_some key within short short' z w W d os without_key = absurd (z refl)
-key_some {c} {t} {ns = ns} key within short short' z w W d os (key_at q g u v enough one reads) =
+key_some at key z within short short' w W d os without_key = let z : ◌≡◌ {A = ℕ} 0 1 = cc in absurd (omega arith)
+key_some {c} {t} {ns = ns} at key z within short short' w W d os (key_at q g u v enough reads) =
+    let e : q ≡ at = cc in
+    let here : value_at g c.text d (drop at t) ≡ done v u = ap (λ (n : ℕ). value_at g c.text d (drop n t)) (sym e) ∙ reads in
     along short short' (called ns w)
-    (W g d v u (omega (arith, part_size q t)) (in_part (λ (l : List ℕ). value_at g c.text d l) key t reads)).wrote
+    (W g d v u (omega (arith, part_size at t, e)) (in_part (λ (l : List ℕ). value_at g c.text d l) at t here)).wrote

@@ -1,34 +1,32 @@
 -- The element or fragment behind a root's scopes, and the root.
 -- Assumes nothing.
+use Rattle.std.specs.Prelude.{Ok, Err}
 use mathlib.Core.Path.{◌≡◌, sym, ap, subst, ◌∙◌}
 use mathlib.Core.Bool.{Bool, true}
 use mathlib.Core.List.{List}
 use Prim.Native.Nat.{ℕ, ◌≤◌, ◌<◌}
 use native.Mathlib.Omega.{arith}
 use lib.ListN.{length, drop, length-drop}
+use Rattle.commands.specs.declared.error.CommandError.{CommandError}
 use Rattle.commands.specs.declared.root.Place.{Place}
-use Rattle.commands.specs.declared.root.ScopeCommand.{ScopeCommand}
 use Rattle.commands.specs.declared.root.ScopeCommand.TheVariants as scopes
 use Rattle.commands.specs.Root.{scope_command}
 use Rattle.definitions.specs.declared.options.Settings.{Settings}
 use Rattle.definitions.specs.Judging.{done}
 use Rattle.definitions.specs.Tree.{Node, Root}
 use Rattle.definitions.specs.Reading.{opened, element_at, fragment_at}
-use Rattle.definitions.specs.Lowering.{Context, Output, lower_node, lower_root}
+use Rattle.definitions.specs.Lowering.{Context, lower_node, lower_root}
 use Rattle.pen.specs.declared.pen.Pen.{Pen}
-use Rattle.emit.specs.declared.jsx_self.Head.{Head}
+use Rattle.emit.specs.declared.used.Used.{Used}
 use Rattle.pen.specs.Emitting.{Produced}
-use Rattle.emit.specs.Brief.{settings_in, outline}
-use Rattle.emit.proofs.Outlines.{outlined_node}
 use Rattle.emit.specs.Heads.{NodeAt, element_headed, fragment_headed, HeadOf}
-use Rattle.jsx.specs.Parts.{context}
 use Rattle.parts.proofs.Inversions.{opened_done}
 use Rattle.jsx.proofs.Parenting.{countable, ElementWritten, FragmentWritten}
 
 -- ---- the element or fragment at the front
 
 module _ (c : Context) (t part : List ℕ) (here : part ≡ drop 9 t) (fits : 9 ≤ length t) {cs cs' ns ns' : List ℕ} {p p' : Pen} {used : ℕ} where
-  pub root_element : (at : Place) → scope_command true t ≡ scopes.Element at → at.line < 4294967296 → at.column < 4294967296
+  pub root_element : (at : Place) → scope_command true t ≡ Ok (scopes.Element at) → at.line < 4294967296 → at.column < 4294967296
       → ElementWritten c part cs cs' ns ns' p p' used at → (n : Node) → NodeAt c.text t n → Produced (lower_node c n) cs cs' ns ns' p p'
   root_element at k l m w n (fragment_headed q f u e h o) = let z : ◌≡◌ {A = ℕ} 0 1 = cc in absurd (omega arith)
   root_element at k l m w n (element_headed q f u e h o) =
@@ -36,7 +34,7 @@ module _ (c : Context) (t part : List ℕ) (here : part ≡ drop 9 t) (fits : 9 
       let r = opened_done 0 at (element_at f c.text 0 at (drop 9 t)) (subst (λ (a : Place). opened 0 a (element_at f c.text 0 a (drop 9 t)) ≡ done n u) same o) in
       (w f 0 n r.0 (omega (arith, ap length here, length-drop 9 t)) (ap (λ (x : List ℕ). element_at f c.text 0 at x) here ∙ r.1) (countable at l m r.3 r.4)).wrote
 
-  pub root_fragment : (at : Place) → scope_command true t ≡ scopes.Fragment at → FragmentWritten c part cs cs' ns ns' p p' used
+  pub root_fragment : (at : Place) → scope_command true t ≡ Ok (scopes.Fragment at) → FragmentWritten c part cs cs' ns ns' p p' used
       → (n : Node) → NodeAt c.text t n → Produced (lower_node c n) cs cs' ns ns' p p'
   root_fragment at k w n (element_headed q f u e h o) = let z : ◌≡◌ {A = ℕ} 0 1 = cc in absurd (omega arith)
   root_fragment at k w n (fragment_headed q f u e h o) =
@@ -44,32 +42,20 @@ module _ (c : Context) (t part : List ℕ) (here : part ≡ drop 9 t) (fits : 9 
       (w f 0 q n r.0 (omega (arith, ap length here, length-drop 9 t)) (ap (λ (x : List ℕ). fragment_at f c.text 0 q x) here ∙ r.1)).wrote
 
 -- no other command stands there
-pub data Elsewhere : ScopeCommand → Type 0 where
-  scope : (k : ℕ) → Elsewhere (scopes.Scope k)
-  wrong : Elsewhere scopes.Wrong
-  cut : Elsewhere scopes.Cut
-  bad : Elsewhere scopes.Bad
+pub no_scope : {A : Type 0} (text t : List ℕ) (n : Node) (k : ℕ) → scope_command true t ≡ Ok (scopes.Scope k) → NodeAt text t n → A
+no_scope text t n k e (element_headed q f u h i o) = let z : ◌≡◌ {A = ℕ} 0 1 = cc in absurd (omega arith)
+no_scope text t n k e (fragment_headed q f u h i o) = let z : ◌≡◌ {A = ℕ} 0 1 = cc in absurd (omega arith)
 
-pub no_node : {A : Type 0} (text t : List ℕ) (n : Node) (x : ScopeCommand) → Elsewhere x → scope_command true t ≡ x → NodeAt text t n → A
-no_node text t n x (scope k) e (element_headed q f u h i o) = let z : ◌≡◌ {A = ℕ} 0 1 = cc in absurd (omega arith)
-no_node text t n x (scope k) e (fragment_headed q f u h i o) = let z : ◌≡◌ {A = ℕ} 0 1 = cc in absurd (omega arith)
-no_node text t n x wrong e (element_headed q f u h i o) = let z : ◌≡◌ {A = ℕ} 0 1 = cc in absurd (omega arith)
-no_node text t n x wrong e (fragment_headed q f u h i o) = let z : ◌≡◌ {A = ℕ} 0 1 = cc in absurd (omega arith)
-no_node text t n x cut e (element_headed q f u h i o) = let z : ◌≡◌ {A = ℕ} 0 1 = cc in absurd (omega arith)
-no_node text t n x cut e (fragment_headed q f u h i o) = let z : ◌≡◌ {A = ℕ} 0 1 = cc in absurd (omega arith)
-no_node text t n x bad e (element_headed q f u h i o) = let z : ◌≡◌ {A = ℕ} 0 1 = cc in absurd (omega arith)
-no_node text t n x bad e (fragment_headed q f u h i o) = let z : ◌≡◌ {A = ℕ} 0 1 = cc in absurd (omega arith)
+pub no_error : {A : Type 0} (text t : List ℕ) (n : Node) (x : CommandError) → scope_command true t ≡ Err x → NodeAt text t n → A
+no_error text t n x e (element_headed q f u h i o) = let z : ◌≡◌ {A = ℕ} 0 1 = cc in absurd (omega arith)
+no_error text t n x e (fragment_headed q f u h i o) = let z : ◌≡◌ {A = ℕ} 0 1 = cc in absurd (omega arith)
 
 -- ---- the root
 
-pub root_lowered : (text t part : List ℕ) (s : Settings) (brief : ℕ) (o : Root) (r : Head) {cs cs' ns ns' : List ℕ} {p p' : Pen} → settings_in brief ≡ outline s
-    → part ≡ drop r.used t → HeadOf text t o r
-    → ((n : Node) → NodeAt text part n → Produced (lower_node (context text brief r.allowed) n) cs cs' ns ns' p p')
+pub root_lowered : (text t part : List ℕ) (s : Settings) (o : Root) (r : Used Bool) {cs cs' ns ns' : List ℕ} {p p' : Pen} → part ≡ drop r.used t → HeadOf text t o r
+    → ((n : Node) → NodeAt text part n → Produced (lower_node (record { text = text; settings = s; self_allowed = r.value }) n) cs cs' ns ns' p p')
     → Produced (lower_root text s o) cs cs' ns ns' p p'
 unfolding lower_root
-root_lowered text t part s brief o r {cs} {cs'} {ns} {ns'} {p} {p'} same here H w =
-    let told : lower_node (context text brief r.allowed) o.node ≡ lower_node (record { text = text; settings = s; self_allowed = r.allowed }) o.node =
-    ap (λ (x : Settings). lower_node (record { text = text; settings = x; self_allowed = r.allowed }) o.node) same ∙ outlined_node text s r.allowed o.node in
+root_lowered text t part s o r {cs} {cs'} {ns} {ns'} {p} {p'} here H w =
     subst (λ (b : Bool). Produced (lower_node (record { text = text; settings = s; self_allowed = b }) o.node) cs cs' ns ns' p p') H.allowed
-    (subst (λ (os : List Output). Produced os cs cs' ns ns' p p') told
-    (w o.node (subst (λ (l : List ℕ). NodeAt text l o.node) (sym here) H.node)))
+    (w o.node (subst (λ (l : List ℕ). NodeAt text l o.node) (sym here) H.node))

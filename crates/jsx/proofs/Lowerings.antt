@@ -1,5 +1,6 @@
 -- What is written by parts is what the definition lowers: values, children one at a time, attributes one at a time, whole calls.
 -- Assumes nothing.
+use Rattle.std.specs.Prelude.{Option, None, Some, Ok}
 use mathlib.Core.Path.{◌≡◌, refl, sym, ap, subst, ◌∙◌}
 use mathlib.Core.Bool.{Bool, true, false, cond, not, ◌||◌, ◌&&◌}
 use mathlib.Core.List.{List, [], ◌∷◌, ◌++◌, append_assoc}
@@ -7,13 +8,14 @@ use Prim.Native.Nat.{ℕ, suc, ◌+◌, ◌≤◌, ◌<◌, ◌^◌}
 use native.Mathlib.Omega.{arith}
 use lib.ListN.{length, drop}
 use lib.Seq.{drop-drop}
-use lib.Dec.{eqb}
 use borrow.Author.Tests.{eq-eqb, ne_eqb}
 use Rattle.text.specs.declared.spans.Span.{Span}
 use Rattle.commands.specs.declared.root.Place.{Place}
 use Rattle.commands.specs.declared.root.ValueCommand.TheVariants as values
 use Rattle.commands.specs.Root.{value_command}
-use Rattle.definitions.specs.Calls as call
+use Rattle.definitions.specs.declared.call_tape.Bare.TheVariants as bare
+use Rattle.definitions.specs.declared.call_tape.WithByte.TheVariants as with_byte
+use Rattle.definitions.specs.declared.call_tape.WithExpression.TheVariants as with_expression
 use Rattle.definitions.specs.Judging.{Parsed, done}
 use Rattle.definitions.specs.Tree.{Name, Node, element, fragment, Attributes, attribute, Value, node_value, Children, no_children, text_child, expression_child, empty_child, spread_child, node_child}
 use Rattle.definitions.specs.Reading.{value_at}
@@ -22,33 +24,33 @@ use Rattle.definitions.specs.Lowering.{Context, Output, put, put_byte, put_over,
 use Rattle.definitions.specs.Store.{create_element}
 use Rattle.pen.specs.declared.pen.Pen.{Pen}
 use Rattle.pen.specs.Emitting.{Called, Produced}
-use Rattle.parts.specs.Promises.{some_output}
-use Rattle.jsx.specs.Parts.{Written, KeyFirst, other, first, KeyAt, without_key, key_at, children_object, Step, ends, goes, classic_call_of, automatic_element, classic_properties, classic_fragment, automatic_fragment}
+use Rattle.parts.specs.Promises.{some_output, newer}
+use Rattle.jsx.specs.Parts.{Written, KeyFirst, other, first, KeyAt, without_key, key_at, children_object, Step, classic_call_of, automatic_element, classic_properties, classic_fragment, automatic_fragment}
 use Rattle.parts.proofs.Inversions.{Behind, value_absent, value_empty, value_expression, value_text}
 use Rattle.jsx.proofs.Writing.{along, called, being}
 
 -- ---- values
 
 module _ (c : Context) (text t : List ℕ) (f d : ℕ) (v : Value) (u : ℕ) (e : value_at f text d t ≡ done v u) {cs cs' : List ℕ} {p p' : Pen} (ns : List ℕ) where
-  pub absent_written : value_command t ≡ values.Absent → Called (put call.literal_true) cs cs' p p' → Written (lower_value c v) u cs cs' ns ns p p' 1
+  pub absent_written : value_command t ≡ Ok values.Absent → Called (put bare.LiteralTrue) cs cs' p p' → Written (lower_value c v) u cs cs' ns ns p p' 1
   unfolding lower_value
   absent_written k w =
       let r = value_absent text t d f k e in
       record { taken = sym r.1; wrote = being (sym (ap (lower_value c) r.0)) (called ns w) }
 
-  pub empty_written : value_command t ≡ values.Empty → Called (put call.literal_true) cs cs' p p' → Written (lower_value c v) u cs cs' ns ns p p' 1
+  pub empty_written : value_command t ≡ Ok values.Empty → Called (put bare.LiteralTrue) cs cs' p p' → Written (lower_value c v) u cs cs' ns ns p p' 1
   unfolding lower_value
   empty_written k w =
       let r = value_empty text t d f k e in
       record { taken = sym r.1; wrote = being (sym (ap (lower_value c) r.0)) (called ns w) }
 
-  pub text_written : (s : Span) → value_command t ≡ values.Text s → Called (quoted (piece s)) cs cs' p p' → Written (lower_value c v) u cs cs' ns ns p p' 5
+  pub text_written : (s : Span) → value_command t ≡ Ok (values.Text s) → Called (quoted (piece s)) cs cs' p p' → Written (lower_value c v) u cs cs' ns ns p p' 5
   unfolding lower_value
   text_written s k w =
       let r = value_text text t d f s k e in
       record { taken = sym r.1; wrote = being (sym (ap (lower_value c) r.0)) (called ns w) }
 
-  pub expression_written : (x : ℕ) → value_command t ≡ values.Expression x → Called (put_over call.expression x) cs cs' p p'
+  pub expression_written : (x : ℕ) → value_command t ≡ Ok (values.Expression x) → Called (put_over with_expression.Expression x) cs cs' p p'
       → Written (lower_value c v) u cs cs' ns ns p p' 3
   unfolding lower_value
   expression_written x k w =
@@ -63,35 +65,40 @@ node_written c i h w = record { taken = ap (λ (q : ℕ). 9 + q) w.taken ∙ sym
 
 -- ---- one of a list
 
-module _ {A : Type 0} (read : ℕ → List ℕ → Parsed A) (out : A → List Output) (Ends : A → Type 0) (Goes : List ℕ → ℕ → A → A → Type 0) (t : List ℕ)
+module _ {A : Type 0} (read : ℕ → List ℕ → Parsed A) (out : A → List Output) (Goes : List ℕ → ℕ → A → A → Type 0) (t : List ℕ)
     {cs cs' ns ns' : List ℕ} {p p' : Pen} {f u : ℕ} {x : A} where
   -- it goes on behind n bytes: the list is g of the rest
   pub step_on : {n : ℕ} {g : A → A} (B : Behind read t f x u n g) (os : List Output) → out (g B.rest) ≡ os ++ out B.rest
-      → Goes t B.fuel (g B.rest) B.rest → Produced os cs cs' ns ns' p p' → Step read out Ends Goes t cs cs' ns ns' p p' n false f x u
-  step_on {n} {g} B os h m w =
-      goes refl B.fuel B.turns B.rest B.size B.reads B.used os (ap out B.is ∙ h)
-      (subst (λ (y : A). Goes t B.fuel y B.rest) (sym B.is) m) w
-
-  -- it ends at the front, with n bytes
-  pub step_end : {n : ℕ} (y : A) → x ≡ y → u ≡ n → out y ≡ [] → Ends y → Produced [] cs cs' ns ns' p p' → Step read out Ends Goes t cs cs' ns ns' p p' n true f x u
-  step_end y i h o m w = ends refl h (ap out i ∙ o) (subst Ends (sym i) m) w
+      → Goes t B.fuel (g B.rest) B.rest → Produced os cs cs' ns ns' p p' → Step read out Goes t cs cs' ns ns' p p' n f x u
+  step_on {n} {g} B os h m w = record {
+    fuel = B.fuel;
+    turns = B.turns;
+    rest = B.rest;
+    size = B.size;
+    reads = B.reads;
+    used = B.used;
+    output = os;
+    outs = ap out B.is ∙ h;
+    goes = subst (λ (y : A). Goes t B.fuel y B.rest) (sym B.is) m;
+    wrote = w;
+  }
 
 -- ---- calls
 
 -- the end of a call: its tag, its callee and whether it is pure
 module _ (c : Context) {cs₀ ns₀ : List ℕ} (short : length cs₀ ≤ 2 ^ 63) (short' : length ns₀ ≤ 2 ^ 63) where
   pub closing_written : (n : ℕ) {front tag : List Output} {cs₁ cs₂ cs₃ cs₄ ns₁ ns₂ : List ℕ} {p₀ p₁ p₂ p₃ p₄ : Pen}
-      → Produced front cs₀ cs₁ ns₀ ns₁ p₀ p₁ → Called (put call.tag) cs₁ cs₂ p₁ p₂ → Produced tag cs₂ cs₃ ns₁ ns₂ p₂ p₃
-      → Called (put call.callee ++ callee_named c.settings.mode n ++ put_byte call.call_end (pure_byte c.settings.pure)) cs₃ cs₄ p₃ p₄
+      → Produced front cs₀ cs₁ ns₀ ns₁ p₀ p₁ → Called (put bare.Tag) cs₁ cs₂ p₁ p₂ → Produced tag cs₂ cs₃ ns₁ ns₂ p₂ p₃
+      → Called (put bare.Callee ++ callee_named c.settings.mode n ++ put_byte with_byte.CallEnd (pure_byte c.settings.pure)) cs₃ cs₄ p₃ p₄
       → Produced (front ++ closing c tag n) cs₀ cs₄ ns₀ ns₂ p₀ p₄
   closing_written n {front} {tag} {ns₁ = ns₁} {ns₂} v t w z =
       being (simp append_assoc) (along short short' (along short short' (along short short' v (called ns₁ t)) w) (called ns₂ z))
 
   -- a classic call
   pub classic_written : {argument items tag : List Output} {cs₁ cs₂ cs₃ cs₄ cs₅ cs₆ ns₁ ns₂ ns₃ : List ℕ} {p₀ p₁ p₂ p₃ p₄ p₅ p₆ : Pen}
-      → Called (put_byte call.call 0) cs₀ cs₁ p₀ p₁ → Produced argument cs₁ cs₂ ns₀ ns₁ p₁ p₂ → Produced items cs₂ cs₃ ns₁ ns₂ p₂ p₃
-      → Called (put call.tag) cs₃ cs₄ p₃ p₄ → Produced tag cs₄ cs₅ ns₂ ns₃ p₄ p₅
-      → Called (put call.callee ++ callee_named c.settings.mode create_element ++ put_byte call.call_end (pure_byte c.settings.pure)) cs₅ cs₆ p₅ p₆
+      → Called (put_byte with_byte.Call 0) cs₀ cs₁ p₀ p₁ → Produced argument cs₁ cs₂ ns₀ ns₁ p₁ p₂ → Produced items cs₂ cs₃ ns₁ ns₂ p₂ p₃
+      → Called (put bare.Tag) cs₃ cs₄ p₃ p₄ → Produced tag cs₄ cs₅ ns₂ ns₃ p₄ p₅
+      → Called (put bare.Callee ++ callee_named c.settings.mode create_element ++ put_byte with_byte.CallEnd (pure_byte c.settings.pure)) cs₅ cs₆ p₅ p₆
       → Produced (classic_call c argument items tag) cs₀ cs₆ ns₀ ns₃ p₀ p₆
   unfolding classic_call
   classic_written b a i t w z = closing_written create_element (along short short' (along short short' (called ns₀ b) a) i) t w z
@@ -99,23 +106,23 @@ module _ (c : Context) {cs₀ ns₀ : List ℕ} (short : length cs₀ ≤ 2 ^ 63
   -- an automatic call
   pub automatic_written : (k : Children) {properties key added tag : List Output} {cs₁ cs₂ cs₃ cs₄ cs₅ cs₆ cs₇ cs₈ cs₉ cs₁₀ ns₁ ns₂ ns₃ ns₄ ns₅ : List ℕ}
       {p₀ p₁ p₂ p₃ p₄ p₅ p₆ p₇ p₈ p₉ p₁₀ : Pen}
-      → Called (put_byte call.call 1) cs₀ cs₁ p₀ p₁ → Called (put call.object_begin) cs₁ cs₂ p₁ p₂ → Produced properties cs₂ cs₃ ns₀ ns₁ p₂ p₃
+      → Called (put_byte with_byte.Call 1) cs₀ cs₁ p₀ p₁ → Called (put bare.ObjectBegin) cs₁ cs₂ p₁ p₂ → Produced properties cs₂ cs₃ ns₀ ns₁ p₂ p₃
       → Produced (children_object c k) cs₃ cs₄ ns₁ ns₂ p₃ p₄ → Produced key cs₄ cs₅ ns₂ ns₃ p₄ p₅ → Called (static_children c (survivors c k)) cs₅ cs₆ p₅ p₆
-      → Produced added cs₆ cs₇ ns₃ ns₄ p₆ p₇ → Called (put call.tag) cs₇ cs₈ p₇ p₈ → Produced tag cs₈ cs₉ ns₄ ns₅ p₈ p₉
-      → Called (put call.callee ++ callee_named c.settings.mode (automatic_name c (survivors c k)) ++ put_byte call.call_end (pure_byte c.settings.pure))
+      → Produced added cs₆ cs₇ ns₃ ns₄ p₆ p₇ → Called (put bare.Tag) cs₇ cs₈ p₇ p₈ → Produced tag cs₈ cs₉ ns₄ ns₅ p₈ p₉
+      → Called (put bare.Callee ++ callee_named c.settings.mode (automatic_name c (survivors c k)) ++ put_byte with_byte.CallEnd (pure_byte c.settings.pure))
       cs₉ cs₁₀ p₉ p₁₀
       → Produced (automatic_call c properties k (lower_children c k) key added tag) cs₀ cs₁₀ ns₀ ns₅ p₀ p₁₀
   unfolding automatic_call children_object
   automatic_written k {properties} {key} {added} {tag} {cs₃ = cs₃} {cs₄} {ns₁ = ns₁} {ns₂} {ns₃} {p₃ = p₃} {p₄} b o ps ks q st ad t w z =
-      let inside : Produced (children_property (survivors c k) (form_of (survivors c k) (has_spread k)) (lower_children c k) ++ put call.object_end) cs₃ cs₄ ns₁ ns₂ p₃ p₄ =
+      let inside : Produced (children_property (survivors c k) (form_of (survivors c k) (has_spread k)) (lower_children c k) ++ put bare.ObjectEnd) cs₃ cs₄ ns₁ ns₂ p₃ p₄ =
       ks in
-      let front = (put_byte call.call 1 ++ put call.object_begin) ++ properties in
+      let front = (put_byte with_byte.Call 1 ++ put bare.ObjectBegin) ++ properties in
       let items = children_property (survivors c k) (form_of (survivors c k) (has_spread k)) (lower_children c k) in
       closing_written (automatic_name c (survivors c k))
       (along short short'
       (along short short'
       (along short short'
-      (being (sym (append_assoc front items (put call.object_end))) (along short short' (along short short' (along short short' (called ns₀ b) (called ns₀ o)) ps) inside))
+      (being (sym (append_assoc front items (put bare.ObjectEnd))) (along short short' (along short short' (along short short' (called ns₀ b) (called ns₀ o)) ps) inside))
       q)
       (called ns₃ st))
       ad)
@@ -136,24 +143,24 @@ no_survivors c (empty_child k) h = no_survivors c k h
 no_survivors c (spread_child e k) h = absurd (omega arith)
 no_survivors c (node_child n k) h = absurd (omega arith)
 
-pub children_none : (c : Context) (k : Children) → survivors c k ≡ 0 → children_object c k ≡ put call.object_end
+pub children_none : (c : Context) (k : Children) → survivors c k ≡ 0 → children_object c k ≡ put bare.ObjectEnd
 unfolding children_object children_property
 children_none c k h = rw (eq-eqb (survivors c k) 0 h) refl
 
 pub children_some : (c : Context) (k : Children) → (survivors c k ≡ 0 → ⊥)
     → children_object c k
-    ≡ ((put call.children_begin ++ lower_children c k) ++ put_byte call.children_end (form_of (survivors c k) (has_spread k))) ++ put call.object_end
+    ≡ ((put bare.ChildrenBegin ++ lower_children c k) ++ put_byte with_byte.ChildrenEnd (form_of (survivors c k) (has_spread k))) ++ put bare.ObjectEnd
 unfolding children_object children_property
 children_some c k h = rw (ne_eqb (survivors c k) 0 h) refl
 
 -- ---- the object of a classic call
 
-pub object_null : (os : List Output) → some_output os ≡ false → (os ≡ []) × (object_of os ≡ put call.null)
+pub object_null : (os : List Output) → some_output os ≡ false → (os ≡ []) × (object_of os ≡ put bare.Null)
 unfolding some_output object_of
 object_null [] h = (refl, refl)
 object_null (o ∷ os) h = let z : ◌≡◌ {A = ℕ} 0 1 = cc in absurd (omega arith)
 
-pub object_some : (os : List Output) → some_output os ≡ true → object_of os ≡ (put call.object_begin ++ os) ++ put call.object_end
+pub object_some : (os : List Output) → some_output os ≡ true → object_of os ≡ (put bare.ObjectBegin ++ os) ++ put bare.ObjectEnd
 unfolding some_output object_of
 object_some [] h = let z : ◌≡◌ {A = ℕ} 0 1 = cc in absurd (omega arith)
 object_some (o ∷ os) h = refl
@@ -180,28 +187,29 @@ module _ (c : Context) (p : Place) (n : Name) (a : Attributes) (k : Children) wh
 -- ---- the last key's place, attribute by attribute
 
 -- of the attributes a, those from here on are `rest`, and the key found so far stands at `key`
-pub record KeySoFar (c : Context) (d : ℕ) (t : List ℕ) (a : Attributes) (given : List Output) (key : ℕ) (rest : Attributes) : Type 0 where
+pub record KeySoFar (c : Context) (d : ℕ) (t : List ℕ) (a : Attributes) (given : List Output) (key : Option ℕ) (rest : Attributes) : Type 0 where
   pub output : List Output
   pub place : KeyAt c d t given key output
   pub same : lower_key c a given ≡ lower_key c rest output
 
-pub key_start : (c : Context) (d : ℕ) (t : List ℕ) (a : Attributes) (given : List Output) → KeySoFar c d t a given 0 a
+pub key_start : (c : Context) (d : ℕ) (t : List ℕ) (a : Attributes) (given : List Output) → KeySoFar c d t a given None a
 key_start c d t a given = record { output = given; place = without_key; same = refl }
 
 module _ (c : Context) (d : ℕ) (t : List ℕ) (a : Attributes) (given : List Output) (i : ℕ) where
-  pub key_goes : (key k f : ℕ) (y z : Attributes) → length t < i + suc f → KeyFirst c d (drop i t) k f y z → KeySoFar c d t a given key y
-      → KeySoFar c d t a given (cond (eqb k 0) key (i + k)) z
+  pub key_goes : (key k : Option ℕ) (f : ℕ) (y z : Attributes) → length t < i + suc f → KeyFirst c d (drop i t) k f y z → KeySoFar c d t a given key y
+      → KeySoFar c d t a given (newer i k key) z
+  unfolding newer
   key_goes key k f y z enough (other h e) S =
       let r : KeySoFar c d t a given key z = record { output = S.output; place = S.place; same = S.same ∙ e S.output } in
-      rw (eq-eqb k 0 h) r
-  key_goes key k f y z enough (first v u h r e) S =
-      let q : KeySoFar c d t a given (i + k) z =
+      rw h r
+  key_goes key k f y z enough (first n v u h one r e) S =
+      let q : KeySoFar c d t a given (Some (i + n)) z =
       record {
-        output = put call.key ++ lower_value c v;
-        place = key_at (i + k) f u v (omega arith) (omega arith) (ap (λ (l : List ℕ). value_at f c.text d l) (sym (drop-drop k i t)) ∙ r);
+        output = put bare.Key ++ lower_value c v;
+        place = key_at (i + n) f u v (omega arith) (ap (λ (l : List ℕ). value_at f c.text d l) (sym (drop-drop n i t)) ∙ r);
         same = S.same ∙ e S.output;
       } in
-      rw (ne_eqb k 0 (λ j. omega arith)) q
+      rw h q
 
 -- ---- children, one at a time: what a step says of the counts
 

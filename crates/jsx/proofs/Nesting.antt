@@ -1,5 +1,6 @@
 -- What a reading of children, of an element or of a fragment that succeeded is made of (as Inversions of parts).
 -- Assumes nothing.
+use Rattle.std.specs.Prelude.{Ok, Err}
 use mathlib.Core.Path.{◌≡◌, refl, sym, ap, ◌∙◌}
 use mathlib.Core.List.{List}
 use Prim.Native.Nat.{ℕ, zero, suc, ◌+◌}
@@ -7,6 +8,7 @@ use lib.ListN.{drop}
 use Rattle.text.specs.declared.spans.Span.{Span}
 use Rattle.text.specs.declared.spans.Bounds.TheVariants.{Outside, Cuts}
 use Rattle.text.specs.Spans.{bounds_of}
+use Rattle.commands.specs.declared.error.CommandError.{CommandError}
 use Rattle.commands.specs.declared.root.Place.{Place}
 use Rattle.commands.specs.declared.root.ChildCommand.TheVariants as children
 use Rattle.commands.specs.Root.{child_command}
@@ -28,22 +30,17 @@ module _ (text t : List ℕ) (d : ℕ) where
     pub opening : Opening node t f at child took
     pub behind : Behind children_read t f k u took (node_child child)
 
-  pub children_ended : (f : ℕ) {k : Children} {u : ℕ} → child_command t ≡ children.End → children_at f text d t ≡ done k u → (k ≡ no_children) × (u ≡ 1)
+  pub children_ended : (f : ℕ) {k : Children} {u : ℕ} → child_command t ≡ Ok children.End → children_at f text d t ≡ done k u → (k ≡ no_children) × (u ≡ 1)
   unfolding children_at children_by
   children_ended zero c e = never e
   children_ended (suc f) {k} {u} c e = let h : done no_children 1 ≡ done k u = rw c at e in (cc, cc)
 
-  pub children_wrong : (f : ℕ) {k : Children} {u : ℕ} → child_command t ≡ children.Wrong → children_at f text d t ≡ done k u → ⊥
+  pub children_error : (f : ℕ) {k : Children} {u : ℕ} {x : CommandError} → child_command t ≡ Err x → children_at f text d t ≡ done k u → ⊥
   unfolding children_at children_by
-  children_wrong zero c e = never e
-  children_wrong (suc f) c e = never (rw c at e)
+  children_error zero c e = never e
+  children_error (suc f) c e = never (rw c at e)
 
-  pub children_cut : (f : ℕ) {k : Children} {u : ℕ} → child_command t ≡ children.Cut → children_at f text d t ≡ done k u → ⊥
-  unfolding children_at children_by
-  children_cut zero c e = never e
-  children_cut (suc f) c e = never (rw c at e)
-
-  pub children_text : (f : ℕ) (s : Span) {k : Children} {u : ℕ} → child_command t ≡ children.Text s → children_at f text d t ≡ done k u
+  pub children_text : (f : ℕ) (s : Span) {k : Children} {u : ℕ} → child_command t ≡ Ok (children.Text s) → children_at f text d t ≡ done k u
       → Behind children_read t f k u 5 (text_child s) × (bounds_of text s ≡ Outside → ⊥) × (bounds_of text s ≡ Cuts → ⊥)
   unfolding children_at children_by
   children_text zero s c e = never e
@@ -51,25 +48,25 @@ module _ (text t : List ℕ) (d : ℕ) where
       let l = lettered_done text s (map (text_child s) (from 5 (children_at f text d (drop 5 t)))) (rw c at e) in
       (mapped children_read t f 5 (text_child s) l.0, l.1, l.2)
 
-  pub children_expression : (f x : ℕ) {k : Children} {u : ℕ} → child_command t ≡ children.Expression x → children_at f text d t ≡ done k u
+  pub children_expression : (f x : ℕ) {k : Children} {u : ℕ} → child_command t ≡ Ok (children.Expression x) → children_at f text d t ≡ done k u
       → Behind children_read t f k u 3 (expression_child x)
   unfolding children_at children_by
   children_expression zero x c e = never e
   children_expression (suc f) x c e = mapped children_read t f 3 (expression_child x) (rw c at e)
 
-  pub children_empty : (f : ℕ) {k : Children} {u : ℕ} → child_command t ≡ children.Empty → children_at f text d t ≡ done k u
+  pub children_empty : (f : ℕ) {k : Children} {u : ℕ} → child_command t ≡ Ok children.Empty → children_at f text d t ≡ done k u
       → Behind children_read t f k u 1 empty_child
   unfolding children_at children_by
   children_empty zero c e = never e
   children_empty (suc f) c e = mapped children_read t f 1 empty_child (rw c at e)
 
-  pub children_spread : (f x : ℕ) {k : Children} {u : ℕ} → child_command t ≡ children.Spread x → children_at f text d t ≡ done k u
+  pub children_spread : (f x : ℕ) {k : Children} {u : ℕ} → child_command t ≡ Ok (children.Spread x) → children_at f text d t ≡ done k u
       → Behind children_read t f k u 3 (spread_child x)
   unfolding children_at children_by
   children_spread zero x c e = never e
   children_spread (suc f) x c e = mapped children_read t f 3 (spread_child x) (rw c at e)
 
-  pub children_element : (f : ℕ) (p : Place) {k : Children} {u : ℕ} → child_command t ≡ children.Element p → children_at f text d t ≡ done k u
+  pub children_element : (f : ℕ) (p : Place) {k : Children} {u : ℕ} → child_command t ≡ Ok (children.Element p) → children_at f text d t ≡ done k u
       → NodeFirst (λ g l. element_at g text d p l) f p k u
   unfolding children_at children_by
   children_element zero p c e = never e
@@ -83,7 +80,7 @@ module _ (text t : List ℕ) (d : ℕ) where
         behind = mapped children_read t f a.1 (node_child a.0) a.3;
       }
 
-  pub children_fragment : (f : ℕ) (p : Place) {k : Children} {u : ℕ} → child_command t ≡ children.Fragment p → children_at f text d t ≡ done k u
+  pub children_fragment : (f : ℕ) (p : Place) {k : Children} {u : ℕ} → child_command t ≡ Ok (children.Fragment p) → children_at f text d t ≡ done k u
       → NodeFirst (λ g l. fragment_at g text d p l) f p k u
   unfolding children_at children_by
   children_fragment zero p c e = never e

@@ -1,9 +1,10 @@
 -- Values and children written one at a time, and the loop over children.
 -- Assumes nothing.
+use Rattle.std.specs.Prelude.{Ok}
 use mathlib.Core.Path.{◌≡◌, refl, sym, ap, subst, ◌∙◌}
 use mathlib.Core.Bool.{Bool, true, false, ◌||◌}
 use mathlib.Core.List.{List, []}
-use Prim.Native.Nat.{ℕ, suc, ◌+◌, ◌≤◌, ◌<◌, ◌^◌}
+use Prim.Native.Nat.{ℕ, suc, ◌+◌, ◌-◌, ◌≤◌, ◌<◌, ◌^◌}
 use native.Mathlib.Omega.{arith}
 use lib.ListN.{length, drop, length-drop}
 use Rattle.text.specs.declared.spans.Span.{Span}
@@ -11,9 +12,11 @@ use Rattle.commands.specs.declared.root.Place.{Place}
 use Rattle.commands.specs.declared.root.ValueCommand.TheVariants as values
 use Rattle.commands.specs.declared.root.ChildCommand.TheVariants as children
 use Rattle.commands.specs.Root.{value_command, child_command}
-use Rattle.definitions.specs.Calls as call
+use Rattle.definitions.specs.declared.call_tape.Bare.TheVariants as bare
+use Rattle.definitions.specs.declared.call_tape.WithByte.TheVariants as with_byte
+use Rattle.definitions.specs.declared.call_tape.WithExpression.TheVariants as with_expression
 use Rattle.definitions.specs.Judging.{done}
-use Rattle.definitions.specs.Tree.{Node, Value, Children, no_children, text_child, node_child}
+use Rattle.definitions.specs.Tree.{Node, Value, Children, text_child, node_child}
 use Rattle.definitions.specs.Reading.{element_at, fragment_at, value_at, children_at}
 use Rattle.definitions.specs.JsxText.{jsx_text}
 use Rattle.definitions.specs.Lowering.{Context, put, put_byte, put_over, form_of, survivors, has_spread, lower_text, lower_node, lower_value, lower_children}
@@ -22,14 +25,16 @@ use Rattle.pen.specs.Emitting.{Called}
 use Rattle.root_check.specs.InOrder.{Inside}
 use Rattle.parts.specs.declared.jsx_impl.Items.{Items}
 use Rattle.parts.specs.Promises.{IsText, TextWritten}
-use Rattle.jsx.specs.Parts.{Written, Countable, goes, Moves, ChildStep, ChildrenEnd, ChildrenGo, ChildrenWritten, children_object}
+use Rattle.jsx.specs.Parts.{Written, Countable, ChildMoves, ChildStep, ChildrenGo, ChildrenWritten, children_object}
 use Rattle.parts.proofs.Inversions.{Opening, Behind, value_element, value_fragment}
-use Rattle.jsx.proofs.Nesting.{children_ended, children_text, children_expression, children_empty, children_spread, children_element, children_fragment}
+use Rattle.jsx.proofs.Nesting.{children_ended, children_error, children_text, children_expression, children_empty, children_spread, children_element, children_fragment}
 use Rattle.jsx.proofs.Writing.{none, along, called, being, instead}
 use Rattle.parts.specs.Promises.{starts_with}
-use Rattle.parts.proofs.Ends.{children_over, some_there}
+use Rattle.parts.proofs.Ends.{children_over, no_child}
+use lib.Seq.{drop-drop}
+use Rattle.emit.proofs.Readings.{Rest}
 use Rattle.jsx.proofs.Turns.{Left, left_start, left_goes, left_ends, or_assoc, or_false}
-use Rattle.jsx.proofs.Lowerings.{node_written, step_on, step_end, text_counts, expression_counts, empty_counts, spread_counts, node_counts, no_survivors, children_none, children_some}
+use Rattle.jsx.proofs.Lowerings.{node_written, step_on, text_counts, expression_counts, empty_counts, spread_counts, node_counts, no_survivors, children_none, children_some}
 
 -- a place whose numbers are not the greatest
 pub countable : (p : Place) → p.line < 4294967296 → p.column < 4294967296 → (p.line ≡ 4294967295 → ⊥) → (p.column ≡ 4294967295 → ⊥) → Countable p
@@ -52,7 +57,7 @@ FragmentWritten c part cs cs' ns ns' p p' used =
 
 -- a child that is an element or a fragment
 abbrev node_item : Pen → ℕ → Items
-node_item p used = record { pen = p; used = 9 + used; last = false; count = 1; spread = false }
+node_item p used = record { pen = p; used = 9 + used; count = 1; spread = false }
 
 enough : (t part : List ℕ) → part ≡ drop 9 t → 9 ≤ length t → (f g : ℕ) → length t < f → f ≡ suc g → suc (length part) < g
 enough t part here fits f g h e = omega (arith, ap length here, length-drop 9 t)
@@ -69,13 +74,13 @@ module _ (c : Context) (t : List ℕ) (part : List ℕ) (here : part ≡ drop 9 
   opened_fragment at w f d n u h o =
       w o.fuel d at n o.took (enough t part here fits f o.fuel h o.turns) (ap (λ (q : List ℕ). fragment_at o.fuel c.text d at q) here ∙ o.reads)
 
-  pub value_element_written : (at : Place) → value_command t ≡ values.Element at → at.line < 4294967296 → at.column < 4294967296 → ElementWritten c part cs cs' ns ns' p p' used at
+  pub value_element_written : (at : Place) → value_command t ≡ Ok (values.Element at) → at.line < 4294967296 → at.column < 4294967296 → ElementWritten c part cs cs' ns ns' p p' used at
       → (f d : ℕ) (v : Value) (u : ℕ) → length t < f → value_at f c.text d t ≡ done v u → Written (lower_value c v) u cs cs' ns ns' p p' (9 + used)
   value_element_written at k l m w f d v u h e =
       let r = value_element c.text t d f at k e in
       node_written c r.1 r.2.used (opened_element at l m w f d r.0 u h r.2)
 
-  pub value_fragment_written : (at : Place) → value_command t ≡ values.Fragment at → FragmentWritten c part cs cs' ns ns' p p' used
+  pub value_fragment_written : (at : Place) → value_command t ≡ Ok (values.Fragment at) → FragmentWritten c part cs cs' ns ns' p p' used
       → (f d : ℕ) (v : Value) (u : ℕ) → length t < f → value_at f c.text d t ≡ done v u → Written (lower_value c v) u cs cs' ns ns' p p' (9 + used)
   value_fragment_written at k w f d v u h e =
       let r = value_fragment c.text t d f at k e in
@@ -87,10 +92,10 @@ module _ (c : Context) (t : List ℕ) (part : List ℕ) (here : part ≡ drop 9 
   node_child_behind f d k u n took B w =
       let B' : Behind (λ g l. children_at g c.text d l) t f k u (9 + used) (node_child n) =
       subst (λ (q : ℕ). Behind (λ g l. children_at g c.text d l) t f k u (9 + q) (node_child n)) (sym w.taken) B in
-      step_on (λ g l. children_at g c.text d l) (lower_children c) (ChildrenEnd c (node_item p' used)) (ChildrenGo c (node_item p' used)) t B' (lower_node c n) refl
+      step_on (λ g l. children_at g c.text d l) (lower_children c) (ChildrenGo c (node_item p' used)) t B' (lower_node c n) refl
       (node_counts c B'.rest n) w.wrote
 
-  pub child_element : (at : Place) → child_command t ≡ children.Element at → at.line < 4294967296 → at.column < 4294967296 → ElementWritten c part cs cs' ns ns' p p' used at
+  pub child_element : (at : Place) → child_command t ≡ Ok (children.Element at) → at.line < 4294967296 → at.column < 4294967296 → ElementWritten c part cs cs' ns ns' p p' used at
       → (f d : ℕ) (k : Children) (u : ℕ) → length t < f → children_at f c.text d t ≡ done k u → ChildStep c d t cs cs' ns ns' p (node_item p' used) f k u
   child_element at i l m w f d k u h e =
       let N = children_element c.text t d f at i e in
@@ -98,7 +103,7 @@ module _ (c : Context) (t : List ℕ) (part : List ℕ) (here : part ≡ drop 9 
       (subst (λ (q : ℕ). Behind (λ g l. children_at g c.text d l) t f k u q (node_child N.child)) N.opening.used N.behind)
       (opened_element at l m w f d N.child N.took h N.opening)
 
-  pub child_fragment : (at : Place) → child_command t ≡ children.Fragment at → FragmentWritten c part cs cs' ns ns' p p' used
+  pub child_fragment : (at : Place) → child_command t ≡ Ok (children.Fragment at) → FragmentWritten c part cs cs' ns ns' p p' used
       → (f d : ℕ) (k : Children) (u : ℕ) → length t < f → children_at f c.text d t ≡ done k u → ChildStep c d t cs cs' ns ns' p (node_item p' used) f k u
   child_fragment at i w f d k u h e =
       let N = children_fragment c.text t d f at i e in
@@ -109,7 +114,7 @@ module _ (c : Context) (t : List ℕ) (part : List ℕ) (here : part ≡ drop 9 
 -- ---- the other children
 
 module _ (c : Context) (t : List ℕ) {cs cs' : List ℕ} {p : Pen} (ns : List ℕ) where
-  pub child_text : (s : Span) (r : Items) → child_command t ≡ children.Text s → IsText r → (Inside c.text s → TextWritten c.text s cs cs' p r)
+  pub child_text : (s : Span) (r : Items) → child_command t ≡ Ok (children.Text s) → IsText r → (Inside c.text s → TextWritten c.text s cs cs' p r)
       → (f d : ℕ) (k : Children) (u : ℕ) → children_at f c.text d t ≡ done k u → ChildStep c d t cs cs' ns ns p r f k u
   unfolding lower_children
   child_text s r i T w f d k u e =
@@ -117,48 +122,48 @@ module _ (c : Context) (t : List ℕ) {cs cs' : List ℕ} {p : Pen} (ns : List �
       let B : Behind (λ g l. children_at g c.text d l) t f k u 5 (text_child s) = x.0 in
       let W : TextWritten c.text s cs cs' p r = w (record { inside = x.1; whole = x.2 }) in
       let n = text_counts c B.rest s r.count W.counted in
-      goes T.more B.fuel B.turns B.rest B.size (ap (λ (q : ℕ). children_at B.fuel c.text d (drop q t)) T.used ∙ B.reads)
-      (B.used ∙ ap (λ (q : ℕ). q + B.size) (sym T.used)) (lower_text (jsx_text c.text s)) (ap (lower_children c) B.is)
-      (ap (survivors c) B.is ∙ n.0, ap has_spread B.is ∙ n.1 ∙ ap (λ (b : Bool). b || has_spread B.rest) (sym T.bare)) (called ns W.wrote)
+      record {
+        fuel = B.fuel;
+        turns = B.turns;
+        rest = B.rest;
+        size = B.size;
+        reads = ap (λ (q : ℕ). children_at B.fuel c.text d (drop q t)) T.used ∙ B.reads;
+        used = B.used ∙ ap (λ (q : ℕ). q + B.size) (sym T.used);
+        output = lower_text (jsx_text c.text s);
+        outs = ap (lower_children c) B.is;
+        goes = (ap (survivors c) B.is ∙ n.0, ap has_spread B.is ∙ n.1 ∙ ap (λ (b : Bool). b || has_spread B.rest) (sym T.bare));
+        wrote = called ns W.wrote;
+      }
 
 module _ (c : Context) (t : List ℕ) {cs cs' : List ℕ} {p p' : Pen} (ns : List ℕ) where
-  pub child_expression : (x : ℕ) → child_command t ≡ children.Expression x → Called (put_over call.expression x) cs cs' p p'
+  pub child_expression : (x : ℕ) → child_command t ≡ Ok (children.Expression x) → Called (put_over with_expression.Expression x) cs cs' p p'
       → (f d : ℕ) (k : Children) (u : ℕ) → children_at f c.text d t ≡ done k u
-      → ChildStep c d t cs cs' ns ns p (record { pen = p'; used = 3; last = false; count = 1; spread = false }) f k u
+      → ChildStep c d t cs cs' ns ns p (record { pen = p'; used = 3; count = 1; spread = false }) f k u
   unfolding lower_children
   child_expression x i w f d k u e =
-      let r : Items = record { pen = p'; used = 3; last = false; count = 1; spread = false } in
+      let r : Items = record { pen = p'; used = 3; count = 1; spread = false } in
       let B = children_expression c.text t d f x i e in
-      step_on (λ g l. children_at g c.text d l) (lower_children c) (ChildrenEnd c r) (ChildrenGo c r) t B (put_over call.expression x) refl
+      step_on (λ g l. children_at g c.text d l) (lower_children c) (ChildrenGo c r) t B (put_over with_expression.Expression x) refl
       (expression_counts c B.rest x) (called ns w)
 
-  pub child_spread : (x : ℕ) → child_command t ≡ children.Spread x → Called (put_over call.spread_item x) cs cs' p p'
+  pub child_spread : (x : ℕ) → child_command t ≡ Ok (children.Spread x) → Called (put_over with_expression.SpreadItem x) cs cs' p p'
       → (f d : ℕ) (k : Children) (u : ℕ) → children_at f c.text d t ≡ done k u
-      → ChildStep c d t cs cs' ns ns p (record { pen = p'; used = 3; last = false; count = 1; spread = true }) f k u
+      → ChildStep c d t cs cs' ns ns p (record { pen = p'; used = 3; count = 1; spread = true }) f k u
   unfolding lower_children
   child_spread x i w f d k u e =
-      let r : Items = record { pen = p'; used = 3; last = false; count = 1; spread = true } in
+      let r : Items = record { pen = p'; used = 3; count = 1; spread = true } in
       let B = children_spread c.text t d f x i e in
-      step_on (λ g l. children_at g c.text d l) (lower_children c) (ChildrenEnd c r) (ChildrenGo c r) t B (put_over call.spread_item x) refl
+      step_on (λ g l. children_at g c.text d l) (lower_children c) (ChildrenGo c r) t B (put_over with_expression.SpreadItem x) refl
       (spread_counts c B.rest x) (called ns w)
 
 module _ (c : Context) (t cs ns : List ℕ) (p : Pen) where
-  pub child_empty : child_command t ≡ children.Empty → (f d : ℕ) (k : Children) (u : ℕ) → children_at f c.text d t ≡ done k u
-      → ChildStep c d t cs cs ns ns p (record { pen = p; used = 1; last = false; count = 0; spread = false }) f k u
+  pub child_empty : child_command t ≡ Ok children.Empty → (f d : ℕ) (k : Children) (u : ℕ) → children_at f c.text d t ≡ done k u
+      → ChildStep c d t cs cs ns ns p (record { pen = p; used = 1; count = 0; spread = false }) f k u
   unfolding lower_children
   child_empty i f d k u e =
-      let r : Items = record { pen = p; used = 1; last = false; count = 0; spread = false } in
+      let r : Items = record { pen = p; used = 1; count = 0; spread = false } in
       let B = children_empty c.text t d f i e in
-      step_on (λ g l. children_at g c.text d l) (lower_children c) (ChildrenEnd c r) (ChildrenGo c r) t B [] refl (empty_counts c B.rest) (none cs ns p)
-
-  pub child_end : child_command t ≡ children.End → (f d : ℕ) (k : Children) (u : ℕ) → children_at f c.text d t ≡ done k u
-      → ChildStep c d t cs cs ns ns p (record { pen = p; used = 1; last = true; count = 0; spread = false }) f k u
-  unfolding lower_children survivors has_spread
-  child_end i f d k u e =
-      let r : Items = record { pen = p; used = 1; last = true; count = 0; spread = false } in
-      let x = children_ended c.text t d f i e in
-      step_end (λ g l. children_at g c.text d l) (lower_children c) (ChildrenEnd c r) (ChildrenGo c r) t no_children x.0 x.1 refl (refl, refl, refl, refl)
-      (none cs ns p)
+      step_on (λ g l. children_at g c.text d l) (lower_children c) (ChildrenGo c r) t B [] refl (empty_counts c B.rest) (none cs ns p)
 
 -- ---- the loop over children
 
@@ -166,18 +171,19 @@ pub record SoFar (c : Context) (k : Children) (count : ℕ) (spread : Bool) (res
   pub counted : survivors c k ≡ count + survivors c rest
   pub spreads : has_spread k ≡ (spread || has_spread rest)
 
-pub record KidsLeft (c : Context) (t cs₀ cs ns₀ ns : List ℕ) (p₀ p : Pen) (i count : ℕ) (spread : Bool) : Type 0 where
-  pub inside : i ≤ length t
-  pub few : count ≤ i
+-- of t, q is what is left
+pub record KidsLeft (c : Context) (t q cs₀ cs ns₀ ns : List ℕ) (p₀ p : Pen) (count : ℕ) (spread : Bool) : Type 0 where
+  pub rest : Rest t q
+  pub few : count ≤ rest.passed
   pub same : length cs ≡ length cs₀
   pub same' : length ns ≡ length ns₀
   pub left : (f d : ℕ) (k : Children) (u : ℕ) → length t < f → children_at f c.text d t ≡ done k u
-      → Left (λ g l. children_at g c.text d l) (lower_children c) (SoFar c k count spread) t k u cs₀ cs ns₀ ns p₀ p i
+      → Left (λ g l. children_at g c.text d l) (lower_children c) (SoFar c k count spread) t k u cs₀ cs ns₀ ns p₀ p rest.passed
 
-pub kids_start : (c : Context) (t cs ns : List ℕ) (p : Pen) → KidsLeft c t cs cs ns ns p p 0 0 false
+pub kids_start : (c : Context) (t cs ns : List ℕ) (p : Pen) → KidsLeft c t t cs cs ns ns p p 0 false
 kids_start c t cs ns p =
     record {
-      inside = omega arith;
+      rest = record { passed = 0; here = refl; size = omega arith };
       few = omega arith;
       same = refl;
       same' = refl;
@@ -185,66 +191,59 @@ kids_start c t cs ns p =
           λ f d k u h e. left_start (λ g l. children_at g c.text d l) (lower_children c) t f k u cs ns p h e (record { counted = omega arith; spreads = refl });
     }
 
-module _ (c : Context) (t : List ℕ) {cs₀ cs ns₀ ns : List ℕ} {p₀ p : Pen} {i count : ℕ} {spread : Bool} (K : KidsLeft c t cs₀ cs ns₀ ns p₀ p i count spread)
-    (q : List ℕ) (here : q ≡ drop i t) (r : Items) (moves : Moves (length q) r.used r.last) (fewer : r.count ≤ r.used) where
-  pub kid_fits : i + r.used ≤ length t
-  kid_fits = omega (arith, moves.inside, K.inside, ap length here, length-drop i t)
+module _ {c : Context} {t q : List ℕ} {cs₀ cs ns₀ ns : List ℕ} {p₀ p : Pen} {count : ℕ} {spread : Bool} (K : KidsLeft c t q cs₀ cs ns₀ ns p₀ p count spread) where
+  pub kids_inside : K.rest.passed ≤ length t
+  kids_inside = omega (arith, K.rest.size)
 
-  pub kids_fit : count + r.count ≤ length t
-  kids_fit = omega (arith, K.few, fewer, kid_fits)
-
-module _ (c : Context) (t : List ℕ) {cs₀ cs cs₁ ns₀ ns ns₁ : List ℕ} {p₀ p : Pen} {i count : ℕ} {spread : Bool} (K : KidsLeft c t cs₀ cs ns₀ ns p₀ p i count spread)
-    (q : List ℕ) (here : q ≡ drop i t) (r : Items) (moves : Moves (length q) r.used r.last) (fewer : r.count ≤ r.used)
-    (step : (f d : ℕ) (k : Children) (u : ℕ) → length q < f → children_at f c.text d q ≡ done k u → ChildStep c d q cs cs₁ ns ns₁ p r f k u)
-    (short : length cs₀ ≤ 2 ^ 63) (short' : length ns₀ ≤ 2 ^ 63) where
-  pub kids_go : length cs₁ ≡ length cs → length ns₁ ≡ length ns → r.last ≡ false
-      → KidsLeft c t cs₀ cs₁ ns₀ ns₁ p₀ r.pen (i + r.used) (count + r.count) (spread || r.spread)
-  kids_go a b l =
+  pub kids_go : {cs₁ ns₁ q' : List ℕ} (r : Items) → ChildMoves (length q) r → q' ≡ drop r.used q
+      → ((f d : ℕ) (k : Children) (u : ℕ) → length q < f → children_at f c.text d q ≡ done k u → ChildStep c d q cs cs₁ ns ns₁ p r f k u)
+      → length cs₀ ≤ 2 ^ 63 → length ns₀ ≤ 2 ^ 63 → length cs₁ ≡ length cs → length ns₁ ≡ length ns
+      → KidsLeft c t q' cs₀ cs₁ ns₀ ns₁ p₀ r.pen (count + r.count) (spread || r.spread)
+  kids_go r moves here step short short' a b =
       record {
-        inside = kid_fits c t K q here r moves fewer;
-        few = omega (arith, K.few, fewer);
+        rest = record {
+          passed = K.rest.passed + r.used;
+          here = here ∙ ap (λ (l : List ℕ). drop r.used l) K.rest.here ∙ drop-drop r.used K.rest.passed t;
+          size = omega (arith, K.rest.size, ap length here, length-drop r.used q, moves.0);
+        };
+        few = omega (arith, K.few, moves.2);
         same = a ∙ K.same;
         same' = b ∙ K.same';
         left =
-            λ f d k u h e. left_goes (λ g l. children_at g c.text d l) (lower_children c) t q here K.inside (λ g y v. step g d y v) short short' (K.left f d k u h e) l
-            (moves.onward l)
+            λ f d k u h e. left_goes (λ g l. children_at g c.text d l) (lower_children c) t q K.rest.here (λ g y v. step g d y v) short short' kids_inside (K.left f d k u h e)
+            moves.1
             (λ g y z m G S. record {
               counted = omega (arith, S.counted, G.0);
               spreads = S.spreads ∙ ap (λ (b : Bool). spread || b) G.1 ∙ or_assoc spread r.spread (has_spread z);
             });
       }
 
-  pub kids_end : r.last ≡ true → (f d : ℕ) (k : Children) (u : ℕ) → length t < f → children_at f c.text d t ≡ done k u
-      → ChildrenWritten c k (lower_children c k) u cs₀ cs₁ ns₀ ns₁ p₀
-      (record { pen = r.pen; used = i + r.used; last = true; count = count + r.count; spread = spread || r.spread })
-  kids_end l f d k u h e =
-      let z = left_ends (λ g l. children_at g c.text d l) (lower_children c) t q here K.inside (λ g y v. step g d y v) short short'
-      {Z = (count + r.count ≡ survivors c k) × ((spread || r.spread) ≡ has_spread k)} (K.left f d k u h e) l
-      (λ y E S. (
-        omega (arith, S.counted, E.0, E.2),
-        ap (λ (b : Bool). spread || b) E.3 ∙ sym (S.spreads ∙ ap (λ (b : Bool). spread || b) E.1),
-      )) in
-      record { taken = sym z.0; counted = z.2.0; spreads = z.2.1; wrote = z.1 }
+  -- the end, seen by its first byte
+  pub kids_over : starts_with 0x1f q ≡ true → length q ≤ length t → (f d : ℕ) (k : Children) (u : ℕ) → length t < f → children_at f c.text d t ≡ done k u
+      → ChildrenWritten c k (lower_children c k) u cs₀ cs ns₀ ns p₀ (record { pen = p; used = length t - length q + 1; count = count; spread = spread })
+  unfolding lower_children survivors has_spread
+  kids_over over less f d k u h e =
+      let R = K.left f d k u h e in
+      let z = children_ended c.text q d R.fuel (children_over q over) (ap (λ (l : List ℕ). children_at R.fuel c.text d l) K.rest.here ∙ R.reads) in
+      record {
+        taken = omega (arith, R.used, z.1, K.rest.size);
+        counted = sym (R.also.counted ∙ ap (λ (l : Children). count + survivors c l) z.0 ∙ (let n : count + 0 ≡ count = omega arith in n));
+        spreads = sym (R.also.spreads ∙ ap (λ (l : Children). spread || has_spread l) z.0 ∙ or_false spread);
+        wrote = left_ends (λ g l. children_at g c.text d l) (lower_children c) t R (ap (lower_children c) z.0);
+      }
 
--- the end, seen by its first byte
-pub kids_over : (c : Context) (t : List ℕ) {cs₀ cs ns₀ ns : List ℕ} {p₀ p : Pen} {i count : ℕ} {spread : Bool} → KidsLeft c t cs₀ cs ns₀ ns p₀ p i count spread
-    → (q : List ℕ) → q ≡ drop i t → length cs₀ ≤ 2 ^ 63 → length ns₀ ≤ 2 ^ 63 → starts_with 0x1f q ≡ true
-    → (f d : ℕ) (k : Children) (u : ℕ) → length t < f → children_at f c.text d t ≡ done k u
-    → ChildrenWritten c k (lower_children c k) u cs₀ cs ns₀ ns p₀ (record { pen = p; used = i + 1; last = true; count = count; spread = spread })
-kids_over c t {cs₀} {cs} {ns₀} {ns} {p₀} {p} {i} {count} {spread} K q here short short' over f d k u h e =
-    let none_more : count + 0 ≡ count = omega arith in
-    subst (λ (b : Bool). ChildrenWritten c k (lower_children c k) u cs₀ cs ns₀ ns p₀ (record { pen = p; used = i + 1; last = true; count = count; spread = b })) (or_false spread)
-    (subst (λ (n : ℕ). ChildrenWritten c k (lower_children c k) u cs₀ cs ns₀ ns p₀ (record { pen = p; used = i + 1; last = true; count = n; spread = spread || false })) none_more
-    (kids_end c t K q here (record { pen = p; used = 1; last = true; count = 0; spread = false })
-    (record { inside = some_there 0x1f q over; onward = λ l. let z : ◌≡◌ {A = ℕ} 0 1 = cc in absurd (omega arith) }) (omega arith)
-    (λ f d k u h e. child_end c q cs ns p (children_over q over) f d k u e) short short' refl f d k u h e))
+  -- a tape that reads goes on to the end
+  pub kids_never : {A : Type 0} → length q ≡ 0 → (f d : ℕ) (k : Children) (u : ℕ) → length t < f → children_at f c.text d t ≡ done k u → A
+  kids_never empty f d k u h e =
+      let R = K.left f d k u h e in
+      absurd (children_error c.text q d R.fuel (no_child q empty) (ap (λ (l : List ℕ). children_at R.fuel c.text d l) K.rest.here ∙ R.reads))
 
 -- ---- the children of an automatic call and the end of its object
 
 module _ (c : Context) {cs₀ cs₁ cs₂ ns₀ ns₂ : List ℕ} {p₀ p₁ : Pen} (short : length cs₀ ≤ 2 ^ 63) (short' : length ns₀ ≤ 2 ^ 63)
-    (begun : Called (put call.children_begin) cs₀ cs₁ p₀ p₁) (r : Items) {k : Children} {u : ℕ} (W : ChildrenWritten c k (lower_children c k) u cs₁ cs₂ ns₀ ns₂ p₁ r) where
-  pub object_bare : {cs₃ : List ℕ} {p₃ : Pen} → r.count ≡ 0 → Called (put call.object_end) cs₂ cs₃ p₀ p₃
-      → ChildrenWritten c k (children_object c k) u cs₀ cs₃ ns₀ ns₂ p₀ (record { pen = p₃; used = r.used; last = true; count = r.count; spread = r.spread })
+    (begun : Called (put bare.ChildrenBegin) cs₀ cs₁ p₀ p₁) (r : Items) {k : Children} {u : ℕ} (W : ChildrenWritten c k (lower_children c k) u cs₁ cs₂ ns₀ ns₂ p₁ r) where
+  pub object_bare : {cs₃ : List ℕ} {p₃ : Pen} → r.count ≡ 0 → Called (put bare.ObjectEnd) cs₂ cs₃ p₀ p₃
+      → ChildrenWritten c k (children_object c k) u cs₀ cs₃ ns₀ ns₂ p₀ (record { pen = p₃; used = r.used; count = r.count; spread = r.spread })
   object_bare z w =
       let n : survivors c k ≡ 0 = sym W.counted ∙ z in
       record {
@@ -254,14 +253,14 @@ module _ (c : Context) {cs₀ cs₁ cs₂ ns₀ ns₂ : List ℕ} {p₀ p₁ : P
         wrote = being (sym (children_none c k n)) (instead short short' begun W.wrote (no_survivors c k n) w);
       }
 
-  pub object_full : (n : ℕ) {cs₃ cs₄ : List ℕ} {p₃ p₄ : Pen} → (r.count ≡ 0 → ⊥) → n ≡ form_of r.count r.spread → Called (put_byte call.children_end n) cs₂ cs₃ r.pen p₃
-      → Called (put call.object_end) cs₃ cs₄ p₃ p₄
-      → ChildrenWritten c k (children_object c k) u cs₀ cs₄ ns₀ ns₂ p₀ (record { pen = p₄; used = r.used; last = true; count = r.count; spread = r.spread })
+  pub object_full : (n : ℕ) {cs₃ cs₄ : List ℕ} {p₃ p₄ : Pen} → (r.count ≡ 0 → ⊥) → n ≡ form_of r.count r.spread → Called (put_byte with_byte.ChildrenEnd n) cs₂ cs₃ r.pen p₃
+      → Called (put bare.ObjectEnd) cs₃ cs₄ p₃ p₄
+      → ChildrenWritten c k (children_object c k) u cs₀ cs₄ ns₀ ns₂ p₀ (record { pen = p₄; used = r.used; count = r.count; spread = r.spread })
   object_full n {cs₃} {p₃ = p₃} z e v w =
       let form : n ≡ form_of (survivors c k) (has_spread k) =
       e ∙ ap (λ (m : ℕ). form_of m r.spread) W.counted ∙ ap (λ (b : Bool). form_of (survivors c k) b) W.spreads in
-      let formed : Called (put_byte call.children_end (form_of (survivors c k) (has_spread k))) cs₂ cs₃ r.pen p₃ =
-      subst (λ (m : ℕ). Called (put_byte call.children_end m) cs₂ cs₃ r.pen p₃) form v in
+      let formed : Called (put_byte with_byte.ChildrenEnd (form_of (survivors c k) (has_spread k))) cs₂ cs₃ r.pen p₃ =
+      subst (λ (m : ℕ). Called (put_byte with_byte.ChildrenEnd m) cs₂ cs₃ r.pen p₃) form v in
       record {
         taken = W.taken;
         counted = W.counted;

@@ -7,7 +7,8 @@ use mathlib.Core.List.{List, [], ◌++◌}
 use Prim.Native.Nat.{ℕ, ◌≤◌, ◌^◌}
 use native.Mathlib.Omega.{arith}
 use lib.ListN.{length}
-use Rattle.definitions.specs.Calls.{Bare, bytes_of, call_bytes, notice_bytes}
+use Rattle.definitions.specs.declared.call_tape.Bare.{Bare}
+use Rattle.definitions.specs.Calls.{bytes_of, call_bytes, notice_bytes}
 use Rattle.definitions.specs.Lowering.{Output, put, commands_of, notices_of}
 use Rattle.definitions.specs.Store.{bound_by, bound_after, numbered, numbered_all}
 use Rattle.pen.specs.declared.pen.Pen.{Pen}

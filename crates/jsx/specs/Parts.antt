@@ -1,21 +1,16 @@
 -- What lowering a part of a root tape promises: where the part reads as a tree, the tree's output is written and its bytes are passed.
-use Rattle.std.specs.Prelude.{◌≡◌, Bool, true, false, ◌||◌, List, [], ◌++◌, ℕ, suc, ◌+◌, ◌≤◌, ◌<◌, length, drop}
+use Rattle.std.specs.Prelude.{◌≡◌, Bool, true, false, ◌||◌, List, [], ◌++◌, ℕ, suc, ◌+◌, ◌≤◌, ◌<◌, length, drop, Option, None, Some}
 use Rattle.commands.specs.declared.root.Place.{Place}
-use Rattle.definitions.specs.Calls as call
+use Rattle.definitions.specs.declared.call_tape.Bare.TheVariants as bare
 use Rattle.definitions.specs.Judging.{Parsed, done}
 use Rattle.definitions.specs.Tree.{Name, Attributes, Value, Children}
 use Rattle.definitions.specs.Reading.{name_at, attributes_at, value_at, children_at}
 use Rattle.definitions.specs.Lowering.{Context, Output, put, form_of, children_property, self_output, source_output, no_key, classic_call, automatic_call, object_of, fragment_tag, lower_name, survivors, has_spread, lower_attributes, lower_key, lower_value, lower_children, lone_spread_or}
 use Rattle.pen.specs.declared.pen.Pen.{Pen}
 use Rattle.pen.specs.Emitting.{Produced}
-use Rattle.emit.specs.Brief.{settings_in}
 use Rattle.parts.specs.declared.jsx_impl.Items.{Items}
 use Rattle.parts.specs.declared.jsx_impl.Props.{Props}
 use Rattle.parts.specs.Promises.{some_output}
-
--- what lowering sees beside the tree, from the code's parameters
-abbrev pub context : List ℕ → ℕ → Bool → Context
-context text brief allowed = record { text = text; settings = settings_in brief; self_allowed = allowed }
 
 -- the output os is written, and u bytes of the tape are passed
 pub record Written (os : List Output) (u : ℕ) (cs cs' ns ns' : List ℕ) (p p' : Pen) (used : ℕ) : Type 0 where
@@ -29,30 +24,32 @@ pub record Countable (p : Place) : Type 0 where
 
 -- ---- lists: what stands first
 
--- t is read as the list x, which takes u bytes. It ends at the front, with n bytes; or one stands there, of n bytes, whose output is written, and
--- y behind it
-pub data Step {A : Type 0} (read : ℕ → List ℕ → Parsed A) (out : A → List Output) (Ends : A → Type 0) (Goes : List ℕ → ℕ → A → A → Type 0)
-    (t cs cs' ns ns' : List ℕ) (p p' : Pen) (n : ℕ) (last : Bool) (f : ℕ) (x : A) (u : ℕ) : Type 0 where
-  ends : last ≡ true → u ≡ n → out x ≡ [] → Ends x → Produced [] cs cs' ns ns' p p' → Step read out Ends Goes t cs cs' ns ns' p p' n last f x u
-  goes : last ≡ false → (fuel : ℕ) → f ≡ suc fuel → (y : A) (v : ℕ) → read fuel (drop n t) ≡ done y v → u ≡ n + v → (os : List Output)
-      → out x ≡ os ++ out y → Goes t fuel x y → Produced os cs cs' ns ns' p p' → Step read out Ends Goes t cs cs' ns ns' p p' n last f x u
-
--- how far a step goes
-pub record Moves (len n : ℕ) (last : Bool) : Type 0 where
-  pub inside : n ≤ len
-  pub onward : last ≡ false → 1 ≤ n
+-- t is read as the list x, which takes u bytes: one stands at the front, of n bytes, whose output is written, and the rest behind it
+pub record Step {A : Type 0} (read : ℕ → List ℕ → Parsed A) (out : A → List Output) (Goes : List ℕ → ℕ → A → A → Type 0)
+    (t cs cs' ns ns' : List ℕ) (p p' : Pen) (n f : ℕ) (x : A) (u : ℕ) : Type 0 where
+  pub fuel : ℕ
+  pub turns : f ≡ suc fuel
+  pub rest : A
+  pub size : ℕ
+  pub reads : read fuel (drop n t) ≡ done rest size
+  pub used : u ≡ n + size
+  pub output : List Output
+  pub outs : out x ≡ output ++ out rest
+  pub goes : Goes t fuel x rest
+  pub wrote : Produced output cs cs' ns ns' p p'
 
 -- ---- children
 
-abbrev pub ChildrenEnd : Context → Items → Children → Type 0
-ChildrenEnd c r k = (survivors c k ≡ 0) × (has_spread k ≡ false) × (r.count ≡ 0) × (r.spread ≡ false)
+abbrev pub ChildMoves : ℕ → Items → Type 0
+ChildMoves len r = (r.used ≤ len) × (1 ≤ r.used) × (r.count ≤ r.used)
 
 abbrev pub ChildrenGo : Context → Items → List ℕ → ℕ → Children → Children → Type 0
 ChildrenGo c r t f k l = (survivors c k ≡ r.count + survivors c l) × (has_spread k ≡ (r.spread || has_spread l))
 
+-- the child at the front, and those behind it
 abbrev pub ChildStep : Context → ℕ → List ℕ → List ℕ → List ℕ → List ℕ → List ℕ → Pen → Items → ℕ → Children → ℕ → Type 0
 ChildStep c d t cs cs' ns ns' p r f k u =
-    Step (λ g l. children_at g c.text d l) (lower_children c) (ChildrenEnd c r) (ChildrenGo c r) t cs cs' ns ns' p r.pen r.used r.last f k u
+    Step (λ g l. children_at g c.text d l) (lower_children c) (ChildrenGo c r) t cs cs' ns ns' p r.pen r.used f k u
 
 pub record ChildrenWritten (c : Context) (k : Children) (os : List Output) (u : ℕ) (cs cs' ns ns' : List ℕ) (p : Pen) (r : Items) : Type 0 where
   pub taken : r.used ≡ u
@@ -62,29 +59,34 @@ pub record ChildrenWritten (c : Context) (k : Children) (os : List Output) (u : 
 
 -- ---- attributes
 
--- the first of the attributes is a key with a value, which stands `key` bytes into t; or it is none, and key is 0
-pub data KeyFirst (c : Context) (d : ℕ) (t : List ℕ) (key f : ℕ) (a b : Attributes) : Type 0 where
-  other : key ≡ 0 → ((os : List Output) → lower_key c a os ≡ lower_key c b os) → KeyFirst c d t key f a b
-  first : (v : Value) (u : ℕ) → 1 ≤ key → value_at f c.text d (drop key t) ≡ done v u
-      → ((os : List Output) → lower_key c a os ≡ lower_key c b (put call.key ++ lower_value c v)) → KeyFirst c d t key f a b
+-- a key that was found stands within so many bytes
+abbrev pub KeyWithin : ℕ → Option ℕ → Type 0
+KeyWithin len (Some k) = k ≤ len
+KeyWithin len None = Unit {0}
 
--- the last key's value stands p bytes into t; or there is none, p is 0, and `os` is what is given
-pub data KeyAt (c : Context) (d : ℕ) (t : List ℕ) (other : List Output) : ℕ → List Output → Type 0 where
-  without_key : KeyAt c d t other 0 other
-  key_at : (p g u : ℕ) (v : Value) → length t < p + g → 1 ≤ p → value_at g c.text d (drop p t) ≡ done v u
-      → KeyAt c d t other p (put call.key ++ lower_value c v)
+abbrev pub AttributeMoves : ℕ → Props → Type 0
+AttributeMoves len r = (r.used ≤ len) × (1 ≤ r.used) × KeyWithin r.used r.key
 
-abbrev pub AttributesEnd : Context → Bool → Props → Attributes → Type 0
-AttributesEnd c classic r a = (some_output (lower_attributes c classic a) ≡ r.some) × (r.key ≡ 0) × ((os : List Output) → lower_key c a os ≡ os)
+-- the first of the attributes is a key with a value, which stands so many bytes into t; or it is none
+pub data KeyFirst (c : Context) (d : ℕ) (t : List ℕ) (key : Option ℕ) (f : ℕ) (a b : Attributes) : Type 0 where
+  other : key ≡ None → ((os : List Output) → lower_key c a os ≡ lower_key c b os) → KeyFirst c d t key f a b
+  first : (k : ℕ) (v : Value) (u : ℕ) → key ≡ Some k → 1 ≤ k → value_at f c.text d (drop k t) ≡ done v u
+      → ((os : List Output) → lower_key c a os ≡ lower_key c b (put bare.Key ++ lower_value c v)) → KeyFirst c d t key f a b
+
+-- the last key's value stands so many bytes into t; or there is none, and `os` is what is given
+pub data KeyAt (c : Context) (d : ℕ) (t : List ℕ) (other : List Output) : Option ℕ → List Output → Type 0 where
+  without_key : KeyAt c d t other None other
+  key_at : (p g u : ℕ) (v : Value) → length t < p + g → value_at g c.text d (drop p t) ≡ done v u
+      → KeyAt c d t other (Some p) (put bare.Key ++ lower_value c v)
 
 abbrev pub AttributesGo : Context → Bool → ℕ → Props → List ℕ → ℕ → Attributes → Attributes → Type 0
 AttributesGo c classic d r t f a b =
     (some_output (lower_attributes c classic a) ≡ (r.some || some_output (lower_attributes c classic b))) × KeyFirst c d t r.key f a b
 
+-- the attribute at the front, and those behind it
 abbrev pub AttributeStep : Context → Bool → ℕ → List ℕ → List ℕ → List ℕ → List ℕ → List ℕ → Pen → Props → ℕ → Attributes → ℕ → Type 0
 AttributeStep c classic d t cs cs' ns ns' p r f a u =
-    Step (λ g l. attributes_at g c.text d l) (lower_attributes c classic) (AttributesEnd c classic r) (AttributesGo c classic d r) t cs cs' ns ns' p r.pen r.used
-    r.last f a u
+    Step (λ g l. attributes_at g c.text d l) (lower_attributes c classic) (AttributesGo c classic d r) t cs cs' ns ns' p r.pen r.used f a u
 
 pub record AttributesWritten (c : Context) (classic : Bool) (d : ℕ) (t : List ℕ) (a : Attributes) (u : ℕ) (cs cs' ns ns' : List ℕ) (p : Pen) (r : Props) : Type 0 where
   pub taken : r.used ≡ u
@@ -103,7 +105,7 @@ pub record Parts (text : List ℕ) (d : ℕ) (t : List ℕ) (f at : ℕ) (n : Na
 
 -- the children of an automatic call and the end of its object
 unfoldable pub children_object : Context → Children → List Output
-children_object c k = children_property (survivors c k) (form_of (survivors c k) (has_spread k)) (lower_children c k) ++ put call.object_end
+children_object c k = children_property (survivors c k) (form_of (survivors c k) (has_spread k)) (lower_children c k) ++ put bare.ObjectEnd
 
 -- the properties of a classic call
 unfoldable pub classic_properties : Context → Place → Attributes → List Output

@@ -4,6 +4,7 @@
 --     at_character, at_plain, at_spaces    a character, a run of plain ASCII and a run of spaces are passed
 --     Passed, passed                       whatever the code says that stands there
 -- Assumes nothing.
+use Rattle.std.specs.Prelude.{None, Some, Option, option_map, unwrap_or}
 use mathlib.Core.Path.{◌≡◌, refl, sym, ap, subst, ◌∙◌}
 use mathlib.Core.Bool.{Bool, true, false, cond}
 use mathlib.Core.Logic.{⊎_elim}
@@ -15,11 +16,11 @@ use native.Mathlib.Omega.{arith}
 use lib.ListN.{length, get_or, drop, length-drop}
 use lib.Seq.{drop-drop, get_or-drop}
 use borrow.Author.Tests.{ne_eqb, lt-leb}
+use Rattle.text.specs.declared.chars.Char.{Char}
 use Rattle.text.specs.declared.spans.Span.{Span}
-use Rattle.text.specs.declared.bytes.Found.TheVariants.{At, Nothing}
 use Rattle.text.specs.Bytes.{over_ascii}
-use Rattle.text.specs.Utf8.{width, ill_from, first_ill}
-use Rattle.text.specs.Chars.{char_of, is_white_space, is_line_terminator}
+use Rattle.text.specs.Utf8.{width, nonzero, ill_from, first_ill}
+use Rattle.text.specs.Chars.{front_code, char_of, is_white_space, is_line_terminator}
 use Rattle.text.proofs.Lists.{drop_one, tail_part}
 use Rattle.text.proofs.Rows.{by_row}
 use Rattle.text.proofs.Walking.{Come, come_step, ill_here, ill_run}
@@ -27,7 +28,7 @@ use Rattle.text.proofs.Sequences.{width_le}
 use Rattle.definitions.specs.JsxText.{Placed, chars_from}
 use Rattle.jsx_text.specs.declared.Mark.{Mark}
 use Rattle.jsx_text.specs.declared.Mark.TheVariants.{Ink, White, Terminator}
-use Rattle.jsx_text.specs.Marks.{marked, Run, Plain, Marks, character, plain, spaces}
+use Rattle.jsx_text.specs.Marks.{marked, Run, Plain, Marks, character, ill, plain, spaces}
 use Rattle.jsx_text.proofs.Runs.{run_tail}
 use Rattle.jsx_text.proofs.Folding.{Line, opening, blank, inked, with_ink, ended, lines_from}
 
@@ -41,9 +42,29 @@ chars_pass zero at (b ∷ l) h = rw add-zero
 chars_pass (suc n) at [] h = absurd (not-suc-le-zero h)
 chars_pass (suc n) at (b ∷ l) h = chars_pass n (suc at) l (le_of_suc-le-suc h) ∙ rw (suc-add at n, add-suc at n)
 
--- the character at the front of a list that stands at `at`
+-- the character at the front of a list, where one stands there
+abbrev pub front : List ℕ → Char
+front l = record { code = front_code l; width = width l }
+
+pub char_front : (l : List ℕ) → 0 < width l → char_of l ≡ Some (front l)
+unfolding char_of
+char_front l h = go (width l) h
+  where
+    go : (w : ℕ) → 0 < w → option_map {U = Char} (λ (v : ℕ). record { code = front_code l; width = v }) (nonzero w) ≡ Some (record { code = front_code l; width = w })
+    go zero k = absurd (omega arith)
+    go (suc n) k = refl
+
+char_none : (l : List ℕ) → char_of l ≡ None → width l ≡ 0
+unfolding char_of
+char_none l e = go (width l) e
+  where
+    go : (w : ℕ) → option_map {U = Char} (λ (v : ℕ). record { code = front_code l; width = v }) (nonzero w) ≡ None → w ≡ 0
+    go zero k = refl
+    go (suc n) k = let z : ◌≡◌ {A = ℕ} 0 1 = cc in absurd (omega arith)
+
+-- the same, that stands at `at`
 abbrev first : ℕ → List ℕ → Placed
-first at l = record { at = at; code = (char_of l).code; next = at + width l }
+first at l = record { at = at; code = front_code l; next = at + width l }
 
 chars_first : (w at : ℕ) (l : List ℕ) → width l ≡ w → 0 < w → chars_from 0 at l ≡ first at l ∷ chars_from 0 (at + w) (drop w l)
 unfolding chars_from
@@ -67,15 +88,15 @@ on_mark s chars l i (White w) = rest_from s chars l (i + w)
 on_mark s chars l i (Terminator w) = ended l ++ rest_from s chars blank (i + w)
 
 module _ (s : Span) (chars : List ℕ) where
-  at_character : (l : Line) (i : ℕ) → 0 < width (drop i chars) → rest_from s chars l i ≡ on_mark s chars l i (marked (char_of (drop i chars)))
-  unfolding rest_from lines_from marked on_mark char_of
+  at_character : (l : Line) (i : ℕ) → 0 < width (drop i chars) → rest_from s chars l i ≡ on_mark s chars l i (marked (front (drop i chars)))
+  unfolding rest_from lines_from marked on_mark
   at_character l i h =
       rw (
         chars_first (width (drop i chars)) (s.start + i) (drop i chars) refl h,
         add_assoc s.start i (width (drop i chars)),
         drop-drop (width (drop i chars)) i chars,
       )
-      (go (is_line_terminator (char_of (drop i chars)).code) (is_white_space (char_of (drop i chars)).code))
+      (go (is_line_terminator (front_code (drop i chars))) (is_white_space (front_code (drop i chars))))
     where
       go : (t w : Bool)
           → cond t (ended l ++ rest_from s chars blank (i + width (drop i chars)))
@@ -87,11 +108,11 @@ module _ (s : Span) (chars : List ℕ) where
 
 -- ---- ASCII
 
-ascii_first : (b : ℕ) (l : List ℕ) → b < 0x80 → char_of (b ∷ l) ≡ record { code = b; width = 1 }
-unfolding char_of
+ascii_first : (b : ℕ) (l : List ℕ) → b < 0x80 → front (b ∷ l) ≡ record { code = b; width = 1 }
+unfolding front_code
 ascii_first b l h = let one : 1 ≡ width (b ∷ l) = by_row (b ∷ l) 0 (omega arith) in rw (← one)
 
-pub ascii_char : (l : List ℕ) (i : ℕ) → i < length l → get_or l i 0 < 0x80 → char_of (drop i l) ≡ record { code = get_or l i 0; width = 1 }
+pub ascii_char : (l : List ℕ) (i : ℕ) → i < length l → get_or l i 0 < 0x80 → front (drop i l) ≡ record { code = get_or l i 0; width = 1 }
 ascii_char l i h k = rw (drop_one l i h) (ascii_first (get_or l i 0) (drop (i + 1) l) k)
 
 ink_mark : (b : ℕ) → 0x20 < b → b < 0x80 → marked (record { code = b; width = 1 }) ≡ Ink 1
@@ -122,9 +143,8 @@ space_mark = refl
 module _ (s : Span) (chars : List ℕ) where
   at_ascii : (l : Line) (i : ℕ) → i < length chars → get_or chars i 0 < 0x80
       → rest_from s chars l i ≡ on_mark s chars l i (marked (record { code = get_or chars i 0; width = 1 }))
-  unfolding char_of
   at_ascii l i h k =
-      let e : char_of (drop i chars) ≡ record { code = get_or chars i 0; width = 1 } = ascii_char chars i h k in
+      let e : front (drop i chars) ≡ record { code = get_or chars i 0; width = 1 } = ascii_char chars i h k in
       let w : width (drop i chars) ≡ 1 = ap (λ c. c.width) e in
       rw (← e) (at_character s chars l i (omega (arith, w)))
 
@@ -191,14 +211,17 @@ module _ (s : Span) (chars : List ℕ) where
 
 -- ---- what stands at a place is passed
 
+some_same : {a b : Char} → ◌≡◌ {A = Option Char} (Some a) (Some b) → a ≡ b
+some_same {a} e = ap (λ (o : Option Char). unwrap_or o a) e
+
 unfoldable pub size_of : Mark → ℕ
 size_of (Ink w) = w
 size_of (White w) = w
 size_of (Terminator w) = w
 
-size_marked : (l : List ℕ) → size_of (marked (char_of l)) ≡ width l
-unfolding marked char_of size_of
-size_marked l = go (is_line_terminator (char_of l).code) (is_white_space (char_of l).code)
+size_marked : (l : List ℕ) → size_of (marked (front l)) ≡ width l
+unfolding marked size_of
+size_marked l = go (is_line_terminator (front_code l)) (is_white_space (front_code l))
   where
     go : (t w : Bool) → size_of (cond t (Terminator (width l)) (cond w (White (width l)) (Ink (width l)))) ≡ width l
     go true w = refl
@@ -210,7 +233,7 @@ pub record Passed (s : Span) (chars : List ℕ) (l : Line) (i : ℕ) (m : Mark) 
   pub come : Come chars (i + size_of m)
   pub same : rest_from s chars l i ≡ on_mark s chars l i m
 
-module _ (s : Span) (chars : List ℕ) (l : Line) (i : ℕ) (good : first_ill chars ≡ Nothing) (come : Come chars i) (h : i < length chars) where
+module _ (s : Span) (chars : List ℕ) (l : Line) (i : ℕ) (good : first_ill chars ≡ None) (come : Come chars i) (h : i < length chars) where
   -- a run of bytes below 80 is passed
   come_ascii : (n lo hi : ℕ) → hi < 0x80 → Run chars lo hi i (i + n) → Come chars (i + n)
   come_ascii n lo hi k r = record {
@@ -226,10 +249,10 @@ module _ (s : Span) (chars : List ℕ) (l : Line) (i : ℕ) (good : first_ill ch
   width_some : width (drop i chars) ≡ 0 → ⊥
   width_some z = never (sym good ∙ come.same ∙ ill_here i (drop i chars) (omega (arith, length-drop i chars)) z)
     where
-      never : Nothing ≡ At i → ⊥
+      never : None ≡ Some i → ⊥
       never e = let z : ◌≡◌ {A = ℕ} 0 1 = cc in omega arith
 
-  character_passed : Passed s chars l i (marked (char_of (drop i chars)))
+  character_passed : Passed s chars l i (marked (front (drop i chars)))
   character_passed =
       let w : 0 < width (drop i chars) = omega (arith, width_some) in record {
         some = omega (arith, size_marked (drop i chars));
@@ -237,8 +260,15 @@ module _ (s : Span) (chars : List ℕ) (l : Line) (i : ℕ) (good : first_ill ch
         same = at_character s chars l i w;
       }
 
+  -- there is a character
+  front_is : (c : Char) → char_of (drop i chars) ≡ Some c → 0 < width (drop i chars) → front (drop i chars) ≡ c
+  front_is c e w = some_same (sym (char_front (drop i chars) w) ∙ e)
+
   pub passed : (m : Mark) → Marks chars i m → Passed s chars l i m
   unfolding size_of on_mark
-  passed m (character e) = subst (Passed s chars l i) e character_passed
+  passed m (character {c} e f) =
+      let w : 0 < width (drop i chars) = omega (arith, width_some) in
+      subst (Passed s chars l i) (ap marked (front_is c e w) ∙ f) character_passed
+  passed m (ill e) = absurd (width_some (char_none (drop i chars) e))
   passed (Ink n) (plain p) = record { some = omega (arith, p.some); come = come_ascii n 0x20 0x7f (omega arith) p.run; same = at_plain s chars n i l p }
   passed (White n) (spaces k r) = record { some = k; come = come_ascii n 0x20 0x20 (omega arith) r; same = at_spaces s chars n i l r }

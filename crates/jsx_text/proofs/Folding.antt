@@ -11,7 +11,7 @@ use native.Mathlib.Omega.{arith}
 use lib.ListN.{length}
 use Rattle.text.specs.declared.spans.Span.{Span}
 use Rattle.text.specs.Utf8.{width}
-use Rattle.text.specs.Chars.{char_of, is_white_space, is_line_terminator}
+use Rattle.text.specs.Chars.{front_code, is_white_space, is_line_terminator}
 use Rattle.text.specs.Spans.{part_of}
 use Rattle.definitions.specs.Pragmas.{onto}
 use Rattle.definitions.specs.JsxText.{Placed, chars_from, lines_of, trim_front, before_trimmed, trim_back, later_lines, end_of, spans_of, kept_lines, jsx_text}
@@ -205,7 +205,7 @@ kept_bytes : (s : Span) (l : List ℕ)
 unfolding chars_from lines_from lines_of at_end kept_lines
 kept_bytes s [] = refl
 kept_bytes s (b ∷ l) =
-    kept_from s (record { at = s.start; code = (char_of (b ∷ l)).code; next = s.start + width (b ∷ l) })
+    kept_from s (record { at = s.start; code = front_code (b ∷ l); next = s.start + width (b ∷ l) })
     (chars_from (width (b ∷ l) - 1) (suc s.start) l) refl
 
 pub fold_text : (text : List ℕ) (s : Span) → lines_from s opening s.start (chars_from 0 s.start (part_of text s)) ≡ jsx_text text s

@@ -4,6 +4,7 @@
 --     Turn           both, at the loop's test
 --     turn_..        one turn; end_.. behind the last one
 -- Assumes nothing.
+use Rattle.std.specs.Prelude.{None}
 use mathlib.Core.Path.{◌≡◌, refl, ap, subst, ◌∙◌}
 use mathlib.Core.Bool.{Bool, true, false, cond}
 use mathlib.Core.List.{List, [], ◌∷◌, ◌++◌}
@@ -11,7 +12,6 @@ use Prim.Native.Nat.{ℕ, ◌+◌, ◌-◌, ◌≤◌, ◌<◌, ◌^◌, min}
 use native.Mathlib.Nat.{add-zero}
 use native.Mathlib.Omega.{arith}
 use lib.ListN.{length, drop, length-take, length-drop, drop_of_length-le}
-use Rattle.text.specs.declared.bytes.Found.TheVariants.{Nothing}
 use Rattle.text.specs.declared.spans.Span.{Span}
 use Rattle.text.specs.Utf8.{first_ill}
 use Rattle.text.specs.Spans.{part_of}
@@ -159,7 +159,7 @@ turn_start text s o at h = record {
 
 module _ (s : Span) (chars : List ℕ) (all : List Span) (o₀ : List ℕ) (at₀ : ℕ) (o : List ℕ) (t : Texted) (first last i : ℕ)
     (turn : Turn s chars all o₀ at₀ o t first last i) where
-  module _ (good : first_ill chars ≡ Nothing) (h : i < length chars) (m : Mark) (marks : Marks chars i m) (w : ℕ) where
+  module _ (good : first_ill chars ≡ None) (h : i < length chars) (m : Mark) (marks : Marks chars i m) (w : ℕ) where
     pass : (k : Mark) → m ≡ k → Passed s chars turn.line i k
     pass k e = subst (Passed s chars turn.line i) e (passed s chars turn.line i good turn.come h m marks)
 

@@ -13,7 +13,9 @@ use Rattle.text.specs.declared.spans.Span.{Span}
 use Rattle.tape.specs.Numbers.{span_bytes}
 use Rattle.definitions.specs.declared.records.Import.{Import}
 use Rattle.definitions.specs.Calls.{bare, bare_code, span_code, bytes_of, call_bytes}
-use Rattle.definitions.specs.Calls as call
+use Rattle.definitions.specs.declared.call_tape.Bare.{Bare}
+use Rattle.definitions.specs.declared.call_tape.Bare.TheVariants.{StringBegin, Space, StringEnd}
+use Rattle.definitions.specs.declared.call_tape.WithSpan.TheVariants.{Piece}
 use Rattle.definitions.specs.Store.{bound_by, bound_after, numbered, numbered_all}
 use Rattle.definitions.specs.Lowering.{Output, emit, put, put_span, piece, joined, lower_text, commands_of, notices_of}
 use Rattle.jsx_text.specs.TextBytes.{text_bytes, piece_bytes, line_bytes, end_bytes}
@@ -25,7 +27,7 @@ pub record Unbound (js : List Import) (os : List Output) (bs : List ℕ) : Type 
   pub silent : notices_of os ≡ []
 
 module _ (js : List Import) (os : List Output) (bs : List ℕ) (u : Unbound js os bs) where
-  with_bare : (c : call.Bare) → Unbound js (emit (bare c) ∷ os) (bare_code c ∷ bs)
+  with_bare : (c : Bare) → Unbound js (emit (bare c) ∷ os) (bare_code c ∷ bs)
   unfolding call_bytes numbered_all numbered commands_of bytes_of bound_after bound_by notices_of
   with_bare c = record { bytes = ap (λ (l : List ℕ). bare_code c ∷ l) u.bytes; binds = u.binds; silent = u.silent }
 
@@ -33,7 +35,7 @@ module _ (js : List Import) (os : List Output) (bs : List ℕ) (u : Unbound js o
   unfolding call_bytes numbered_all numbered commands_of bytes_of span_code bound_after bound_by notices_of
   with_piece s = go (eqb s.len 0)
     where
-      go : (b : Bool) → Unbound js (cond b [] (put_span call.piece s) ++ os) (cond b [] (0x8b ∷ span_bytes s) ++ bs)
+      go : (b : Bool) → Unbound js (cond b [] (put_span Piece s) ++ os) (cond b [] (0x8b ∷ span_bytes s) ++ bs)
       go true = u
       go false =
           record { bytes = ap (λ (l : List ℕ). (0x8b ∷ span_bytes s) ++ l) u.bytes; binds = u.binds; silent = u.silent }
@@ -45,21 +47,21 @@ unfoldable pub more_bytes : List Span → List ℕ
 more_bytes [] = 0x8d ∷ []
 more_bytes (s ∷ ss) = line_bytes true s ++ more_bytes ss
 
-unbound_end : (js : List Import) → Unbound js (put call.string_end) (0x8d ∷ [])
+unbound_end : (js : List Import) → Unbound js (put StringEnd) (0x8d ∷ [])
 unfolding call_bytes numbered_all numbered commands_of bytes_of bare_code bound_after bound_by notices_of
 unbound_end js = record { bytes = refl; binds = refl; silent = refl }
 
 unbound_joined : (js : List Import) (s : Span) (ss : List Span)
-    → Unbound js (joined (s ∷ ss) ++ put call.string_end) (piece_bytes s ++ more_bytes ss)
+    → Unbound js (joined (s ∷ ss) ++ put StringEnd) (piece_bytes s ++ more_bytes ss)
 unfolding joined more_bytes line_bytes bare_code
 unbound_joined js s [] = with_piece js _ _ (unbound_end js) s
 unbound_joined js s (r ∷ rs) =
     simp append_assoc
-    (with_piece js _ _ (with_bare js _ _ (unbound_joined js r rs) call.space) s)
+    (with_piece js _ _ (with_bare js _ _ (unbound_joined js r rs) Space) s)
 
 unbound_text : (js : List Import) (s : Span) (ss : List Span) → Unbound js (lower_text (s ∷ ss)) (line_bytes false s ++ more_bytes ss)
 unfolding lower_text line_bytes bare_code
-unbound_text js s ss = with_bare js _ _ (unbound_joined js s ss) call.string_begin
+unbound_text js s ss = with_bare js _ _ (unbound_joined js s ss) StringBegin
 
 unbound_none : (js : List Import) → Unbound js (lower_text []) []
 unfolding lower_text call_bytes numbered_all commands_of bound_after notices_of

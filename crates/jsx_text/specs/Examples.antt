@@ -3,7 +3,7 @@ use Rattle.std.specs.Prelude.{ℕ, ◌≡◌, refl, List, [], ◌∷◌, map, le
 use Rattle.text.specs.declared.spans.Span.{Span}
 use Rattle.text.specs.Bytes.{ascii}
 use Rattle.text.specs.Utf8.{within, width}
-use Rattle.text.specs.Chars.{char_of, is_white_space, is_line_terminator}
+use Rattle.text.specs.Chars.{front_code, is_white_space, is_line_terminator}
 use Rattle.text.specs.Spans.{part_of}
 use Rattle.definitions.specs.Pragmas.{onto}
 use Rattle.definitions.specs.JsxText.{chars_from, lines_of, trim_front, before_trimmed, trim_back, later_lines, end_of, spans_of, kept_lines, jsx_text}
@@ -74,7 +74,7 @@ table =
     ∷ []
 
 pub lines_left : map (λ r. jsx_text r.text r.part) table ≡ map (λ r. r.left) table
-unfolding jsx_text kept_lines lines_of onto chars_from char_of width within part_of is_white_space is_line_terminator
+unfolding jsx_text kept_lines lines_of onto chars_from front_code width within part_of is_white_space is_line_terminator
     trim_front trim_back before_trimmed later_lines end_of spans_of
 lines_left = refl
 

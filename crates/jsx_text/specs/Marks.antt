@@ -1,5 +1,5 @@
 -- What is taken off a JSX text in one step, and how many bytes it has: one character, or a run of plain ASCII.
-use Rattle.std.specs.Prelude.{◌≡◌, cond, List, ℕ, ◌+◌, ◌-◌, ◌≤◌, ◌<◌, length, get_or, drop}
+use Rattle.std.specs.Prelude.{◌≡◌, None, Some, cond, List, ℕ, ◌+◌, ◌-◌, ◌≤◌, ◌<◌, length, get_or, drop}
 use Rattle.text.specs.declared.chars.Char.{Char}
 use Rattle.text.specs.Chars.{char_of, is_white_space, is_line_terminator}
 use Rattle.jsx_text.specs.declared.Mark.{Mark}
@@ -26,6 +26,7 @@ pub record Plain (l : List ℕ) (from to : ℕ) : Type 0 where
 
 -- what a mark that was taken at place i of l says
 pub data Marks (l : List ℕ) (i : ℕ) : Mark → Type 0 where
-  character : {m : Mark} → marked (char_of (drop i l)) ≡ m → Marks l i m
+  character : {c : Char} {m : Mark} → char_of (drop i l) ≡ Some c → marked c ≡ m → Marks l i m
+  ill : char_of (drop i l) ≡ None → Marks l i (Ink 1)
   plain : {n : ℕ} → Plain l i (i + n) → Marks l i (Ink n)
   spaces : {n : ℕ} → 0 < n → Run l 0x20 0x20 i (i + n) → Marks l i (White n)

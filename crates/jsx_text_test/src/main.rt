@@ -4,11 +4,10 @@
 
 ghost use Rattle.std.specs.Prelude.{◌≤◌, length};
 
-use files::{CANNOT_WRITE, print_bytes, print_decimal, read_full};
+use files::{CANNOT_WRITE, print_bytes, read_full};
 use jsx_text::fixup_whitespace_and_decode_entities;
 use std::io;
 use std::io::Write;
-use text::bytes::Found;
 use text::spans::{Span, part};
 use text::utf8::first_ill_formed;
 
@@ -18,23 +17,19 @@ const LINE: usize = 512 * 3;
 fn show(out: &mut impl Write, text: &[u8], span: Span) -> io::Result<()>
     requires { length text.now ≤ 65535 }
 {
-    let Found::Nothing = first_ill_formed(part(text, span)) else {
+    let None = first_ill_formed(part(text, span)) else {
         return out.write_all(b"ill-formed\n");
     };
     let mut one = [0u8; 1];
     let counted = fixup_whitespace_and_decode_entities(text, span, &mut one, 0);
     let mut calls = [0u8; 512];
     let texted = fixup_whitespace_and_decode_entities(text, span, &mut calls, 0);
-    if texted.survives {
-        out.write_all(b"child ")?;
-    } else {
-        out.write_all(b"no child ")?;
-    }
-    print_decimal(out, counted.at)?;
-    let n = texted.at;
-    if n <= calls.len() {
+    let child = if texted.survives { "child" } else { "no child" };
+    let size = counted.at;
+    write!(out, "{child} {size}")?;
+    if let Some(front) = calls.get(..texted.at) {
         let mut line = [0u8; LINE];
-        print_bytes(out, &calls[0..n], &mut line)?;
+        print_bytes(out, front, &mut line)?;
     }
     out.write_all(b"\n")
 }
@@ -44,20 +39,15 @@ fn show_each(out: &mut impl Write, texts: &[u8]) -> io::Result<()>
     requires { length texts.now ≤ 65536 }
 {
     let mut from = 0;
-    let mut i = 0;
-    while i < texts.len() {
-        if texts[i] == 0 {
-            show(
-                out,
-                &texts[0..i],
-                Span {
-                    start: from as u16,
-                    len: (i - from) as u16,
-                },
-            )?;
+    for (i, b) in texts.iter().enumerate() {
+        if *b == 0 {
+            let span = Span {
+                start: from as u16,
+                len: (i - from) as u16,
+            };
+            show(out, &texts[..i], span)?;
             from = i + 1;
         }
-        i += 1;
     }
     Ok(())
 }
@@ -67,7 +57,7 @@ fn run(rt: &(impl Input + Print), buffer: &mut [u8]) -> io::Result<()>
     requires { length buffer.old ≤ 65536 }
 {
     let n = read_full(&mut rt.reader(), buffer);
-    show_each(&mut io::writer(rt), &buffer[0..n])
+    show_each(&mut io::writer(rt), &buffer[..n])
 }
 
 fn main(rt: HostRuntime) {

@@ -3,6 +3,8 @@
 --     root_held, roots_held  one call over such a world is the roots that it hands over
 --     hosted, opening_hosted   and so are any number of calls behind an opening
 -- Assumes nothing.
+use Rattle.std.specs.Prelude.{Err, Ok, Option, Result, ⊤, unwrap_or}
+use Rattle.tape.specs.declared.refusal.Refusal.{Refusal}
 use mathlib.Core.Path.{◌≡◌, refl, sym, ap, subst, ◌∙◌}
 use mathlib.Core.List.{List, [], ◌∷◌, ◌++◌, append-nil}
 use Prim.Native.Nat.{ℕ, zero, suc, ◌+◌, ◌≤◌}
@@ -11,8 +13,6 @@ use lib.ListN.{length, take, drop, length-append, length-take, length-drop, drop
 use borrow.Author.Tests.{le-ltb, ne_eqb}
 use Rattle.definitions.specs.declared.options.Settings.{Settings}
 use Rattle.definitions.specs.declared.state.State.{State}
-use Rattle.definitions.specs.declared.state.Answer.{Answer}
-use Rattle.definitions.specs.declared.state.Answer.TheVariants.{Accepted, Refused}
 use Rattle.definitions.specs.declared.state.Stepped.{Stepped}
 use Rattle.definitions.specs.Judging.{Judged, accepted, refused}
 use Rattle.definitions.specs.Opening.{opening_bytes, judge_opening}
@@ -25,7 +25,7 @@ use Rattle.definitions.proofs.RootSeries.{front_laid, series_append}
 use Rattle.definitions.proofs.Demand3.{kept}
 use Rattle.lowering.specs.RootLists.{roots_in, Run, run}
 use Rattle.lowering.proofs.Listed.{run_leaves}
-use Rattle.packing.specs.Packed.{Found, packed, packed_target, unpacked_answer}
+use Rattle.packing.specs.Packed.{no_state, packed, packed_target}
 use Rattle.packing.proofs.Bytes.{packed_length}
 use Rattle.packing.proofs.Inverse.{unpacked_packed}
 use Rattle.jsxlib.specs.Entries.{state_from, state_after, without_room, kept_state, root_over, run_over}
@@ -40,8 +40,7 @@ abbrev held_of : World → Held
 held_of w = record { state = packed w.state; calls = w.calls; notices = w.notices }
 
 unpacks : (s : State) → Eight s → state_from (packed s) ≡ s
-unfolding unpacked_answer
-unpacks s e = ap (λ (f : Found). (unpacked_answer f).state) (unpacked_packed s e)
+unpacks s e = ap (λ (f : Option State). unwrap_or f no_state) (unpacked_packed s e)
 
 -- a state in the place of another
 repacked : (s t : State) → Eight s → Eight t → packed_target t (packed s) ≡ packed t
@@ -164,13 +163,13 @@ opened_bytes s target e h =
     (ap (λ (k : ℕ). take k (laid 0 (packed s) target)) n ∙ take_laid 0 (packed s) target (omega (arith, packed_length s e)))
 
 -- an opening whose state has no room leaves its bytes
-pub kept_short : (a : Answer) (s : State) (bytes : List ℕ) → state_after (without_room a) s bytes ≡ bytes
+pub kept_short : (a : Result ⊤ Refusal) (s : State) (bytes : List ℕ) → state_after (without_room a) s bytes ≡ bytes
 unfolding state_after without_room
-kept_short Accepted s bytes = refl
-kept_short (Refused r) s bytes = refl
+kept_short (Ok tt) s bytes = refl
+kept_short (Err r) s bytes = refl
 
 -- so all that hosts run behind it is a series
-pub opening_hosted : (text job state notices : List ℕ) {after noticed : List ℕ} {told : Stepped} {a : Answer}
+pub opening_hosted : (text job state notices : List ℕ) {after noticed : List ℕ} {told : Stepped} {a : Result ⊤ Refusal}
     → told ≡ (opened text job notices).stepped → noticed ≡ (opened text job notices).notices → a ≡ told.answer → after ≡ state_after a told.state state
     → (s : Settings) → judge_opening text job (length notices) ≡ accepted s → 102 ≤ length state → Begins text s noticed × Hosted text s (take 102 after)
 unfolding opened opened_by state_after
@@ -178,7 +177,7 @@ opening_hosted text job state notices {after} {noticed} {told} o n i e s h room 
     let opens = opening_opens text job (length notices) s h in
     let p : after ≡ packed_target (open_state text s) state =
     e
-    ∙ ap (λ (x : Answer). state_after x told.state state) i
+    ∙ ap (λ (x : Result ⊤ Refusal). state_after x told.state state) i
     ∙ ap (λ (x : Stepped). state_after x.answer x.state state) o
     ∙ ap (λ (j : Judged Settings). state_after (opened_by text notices j).stepped.answer (opened_by text notices j).stepped.state state) h in
     let q : noticed ≡ laid 0 (opening_bytes text s) notices = n ∙ ap (λ (j : Judged Settings). (opened_by text notices j).notices) h in (

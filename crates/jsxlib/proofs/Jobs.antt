@@ -2,6 +2,7 @@
 --     opening_refused, root_refused, job_done     how far it came
 --     job_is                                      the parts of that, and demand 3 of the roots that it took
 -- Assumes nothing.
+use Rattle.std.specs.Prelude.{Err, Ok, Result, ⊤}
 use mathlib.Core.Path.{◌≡◌, refl, sym, ap, ◌∙◌}
 use mathlib.Core.List.{List}
 use Prim.Native.Nat.{ℕ}
@@ -9,8 +10,6 @@ use lib.ListN.{length, take}
 use Rattle.tape.specs.declared.refusal.Refusal.{Refusal}
 use Rattle.tape.specs.Refusals.{number_of, figure_of}
 use Rattle.definitions.specs.declared.state.State.{State}
-use Rattle.definitions.specs.declared.state.Answer.{Answer}
-use Rattle.definitions.specs.declared.state.Answer.TheVariants.{Accepted, Refused}
 use Rattle.definitions.specs.declared.state.Stepped.{Stepped}
 use Rattle.definitions.specs.declared.options.Settings.{Settings}
 use Rattle.definitions.specs.Judging.{Judged, accepted}
@@ -20,18 +19,18 @@ use Rattle.definitions.specs.Series.{World, opening, series}
 use Rattle.definitions.proofs.Demand3.{demand3}
 use Rattle.lowering.specs.RootLists.{roots_in, run}
 use Rattle.lowering.proofs.Listed.{run_leaves}
-use Rattle.jsxlib.specs.Entries.{number_by, figure_by, records_number, records_figure, JobRun, job_records, job_roots, job_by, job_over}
+use Rattle.jsxlib.specs.Entries.{number_by, figure_by, records_figure, JobRun, job_records, job_roots, job_by, job_over}
 use Rattle.jsxlib.specs.Hosts.{Served}
 
 abbrev pub begun : State → List ℕ → List ℕ → World
 begun s calls notices = record { state = s; calls = calls; notices = notices }
 
 -- the number and the figure of a refusal
-told_number : {a : Answer} {x : Refusal} {n : ℕ} → a ≡ Refused x → n ≡ number_by a → number_of x ≡ n
+told_number : {a : Result ⊤ Refusal} {x : Refusal} {n : ℕ} → a ≡ Err x → n ≡ number_by a → number_of x ≡ n
 unfolding number_by
 told_number h e = sym (e ∙ ap number_by h)
 
-told_figure : {a : Answer} {x : Refusal} {n : ℕ} → a ≡ Refused x → n ≡ figure_by 0 a → figure_of x ≡ n
+told_figure : {a : Result ⊤ Refusal} {x : Refusal} {n : ℕ} → a ≡ Err x → n ≡ figure_by 0 a → figure_of x ≡ n
 unfolding figure_by
 told_figure h e = sym (e ∙ ap (figure_by 0) h)
 
@@ -40,46 +39,46 @@ module _ (text job roots calls notices records : List ℕ) (t : Stepped) (told :
   opens : job_over text job roots calls notices records ≡ job_by text t.answer (begun t.state calls noted) roots records
   opens = λ ι. job_by text (sym told ι).answer (begun (sym told ι).state calls (sym noticed ι)) roots records
 
-  pub opening_refused : {x : Refusal} {n f : ℕ} → t.answer ≡ Refused x → n ≡ number_by t.answer → f ≡ figure_by 0 t.answer
+  pub opening_refused : {x : Refusal} {n f : ℕ} → t.answer ≡ Err x → n ≡ number_by t.answer → f ≡ figure_by 0 t.answer
       → job_over text job roots calls notices records
       ≡ record { stage = 0; number = n; figure = f; taken = 0; world = begun t.state calls noted; records = records }
   unfolding job_by
   opening_refused h n f =
-      opens ∙ ap (λ (a : Answer). job_by text a (begun t.state calls noted) roots records) h
+      opens ∙ ap (λ (a : Result ⊤ Refusal). job_by text a (begun t.state calls noted) roots records) h
       ∙ λ ι. record { stage = 0; number = told_number h n ι; figure = told_figure h f ι; taken = 0; world = begun t.state calls noted; records = records }
 
-  module _ (accepts : t.answer ≡ Accepted) {a : Answer} {k : ℕ} {w : World}
+  module _ (accepts : t.answer ≡ Ok tt) {a : Result ⊤ Refusal} {k : ℕ} {w : World}
       (answers : a ≡ (run text (begun t.state calls noted) roots).answer)
       (takes : k ≡ (run text (begun t.state calls noted) roots).taken)
       (leaves : w ≡ (run text (begun t.state calls noted) roots).world) where
     runs : job_over text job roots calls notices records ≡ job_roots text a k w records
     unfolding job_by
     runs =
-        opens ∙ ap (λ (b : Answer). job_by text b (begun t.state calls noted) roots records) accepts
+        opens ∙ ap (λ (b : Result ⊤ Refusal). job_by text b (begun t.state calls noted) roots records) accepts
         ∙ λ ι. job_roots text (sym answers ι) (sym takes ι) (sym leaves ι) records
 
-    pub root_refused : {x : Refusal} {n f : ℕ} → a ≡ Refused x → n ≡ number_by a → f ≡ figure_by 0 a
+    pub root_refused : {x : Refusal} {n f : ℕ} → a ≡ Err x → n ≡ number_by a → f ≡ figure_by 0 a
         → job_over text job roots calls notices records ≡ record { stage = 1; number = n; figure = f; taken = k; world = w; records = records }
     unfolding job_roots
     root_refused h n f =
-        runs ∙ ap (λ (b : Answer). job_roots text b k w records) h
+        runs ∙ ap (λ (b : Result ⊤ Refusal). job_roots text b k w records) h
         ∙ λ ι. record { stage = 1; number = told_number h n ι; figure = told_figure h f ι; taken = k; world = w; records = records }
 
-    pub job_done : {n f : ℕ} {rs : List ℕ} → a ≡ Accepted
-        → n ≡ records_number (records_answer (judge_records text w.state (length records)))
+    pub job_done : {n f : ℕ} {rs : List ℕ} → a ≡ Ok tt
+        → n ≡ number_by (records_answer (judge_records text w.state (length records)))
         → f ≡ records_figure (records_answer (judge_records text w.state (length records)))
         → rs ≡ records_target records (judge_records text w.state (length records))
         → job_over text job roots calls notices records ≡ record { stage = 2; number = n; figure = f; taken = k; world = w; records = rs }
     unfolding job_roots job_records
     job_done h n f r =
-        runs ∙ ap (λ (b : Answer). job_roots text b k w records) h
+        runs ∙ ap (λ (b : Result ⊤ Refusal). job_roots text b k w records) h
         ∙ λ ι. record { stage = 2; number = sym n ι; figure = sym f ι; taken = k; world = w; records = sym r ι }
 
 -- the world that a job leaves behind an accepted opening is the series of the roots that it took
-roots_leave : (text : List ℕ) (a : Answer) (k : ℕ) (w : World) (records : List ℕ) → ((job_roots text a k w records).world ≡ w) × ((job_roots text a k w records).taken ≡ k)
+roots_leave : (text : List ℕ) (a : Result ⊤ Refusal) (k : ℕ) (w : World) (records : List ℕ) → ((job_roots text a k w records).world ≡ w) × ((job_roots text a k w records).taken ≡ k)
 unfolding job_roots job_records
-roots_leave text Accepted k w records = (refl, refl)
-roots_leave text (Refused x) k w records = (refl, refl)
+roots_leave text (Ok tt) k w records = (refl, refl)
+roots_leave text (Err x) k w records = (refl, refl)
 
 module _ (text job roots calls notices records : List ℕ) where
   job_served : (s : Settings) → judge_opening text job (length notices) ≡ accepted s

@@ -1,12 +1,11 @@
 -- Bytes that are no state's are refused as forged (specs, Unread).
 -- Assumes nothing.
+use Rattle.std.specs.Prelude.{None, Option, unwrap_or}
 use mathlib.Core.Path.{◌≡◌, refl, ap, ◌∙◌}
 use mathlib.Core.Bool.{Bool, true, false, not, ◌||◌}
 use mathlib.Core.List.{List}
 use Prim.Native.Nat.{ℕ}
 use lib.ListN.{length}
-use Rattle.text.specs.declared.bytes.Found.{Found}
-use Rattle.text.specs.declared.bytes.Found.TheVariants.{Nothing}
 use Rattle.text.specs.Utf8.{first_ill}
 use Rattle.tape.specs.declared.refusal.Refusal.{Refusal}
 use Rattle.tape.specs.declared.refusal.Refusal.TheVariants as refusal
@@ -16,7 +15,7 @@ use Rattle.definitions.specs.States.{sound, overfilled}
 use Rattle.definitions.specs.Entries.{Lowered, judge_root, outcome_by, root_outcome, judge_writing, judge_records, records_answer}
 use Rattle.definitions.specs.Series.{World}
 use Rattle.lowering.specs.RootLists.{Run, judge_list, judged_run, run}
-use Rattle.packing.specs.Packed.{Found as Unpack, none, no_state, unpacked, unpacked_answer}
+use Rattle.packing.specs.Packed.{no_state, unpacked}
 use Rattle.jsxlib.specs.Entries.{state_from}
 use Rattle.jsxlib.specs.Unread.{RootUnread, ListUnread, RecordsUnread}
 
@@ -29,20 +28,19 @@ module _ {A : Type 0} where
   unfolding refuse
   stop b r j e = ap (λ (c : Bool). refuse c r j) e
 
-  fair : (f : Found) (r : ℕ → Refusal) (j : Judged A) → f ≡ Nothing → refuse_at f r j ≡ j
+  fair : (f : Option ℕ) (r : ℕ → Refusal) (j : Judged A) → f ≡ None → refuse_at f r j ≡ j
   unfolding refuse_at
-  fair f r j e = ap (λ (g : Found). refuse_at g r j) e
+  fair f r j e = ap (λ (g : Option ℕ). refuse_at g r j) e
 
 -- the state that stands for such bytes has over 8 records
 unsound : (text : List ℕ) → sound text no_state ≡ false
 unfolding sound
 unsound text = refl
 
-unsound_from : (text state : List ℕ) → unpacked state ≡ none → sound text (state_from state) ≡ false
-unfolding unpacked_answer
-unsound_from text state e = ap (λ (f : Unpack). sound text (unpacked_answer f).state) e ∙ unsound text
+unsound_from : (text state : List ℕ) → unpacked state ≡ None → sound text (state_from state) ≡ false
+unsound_from text state e = ap (λ (f : Option State). sound text (unwrap_or f no_state)) e ∙ unsound text
 
-root_judged : (text : List ℕ) (s : State) (tape : List ℕ) (m n : ℕ) → (too_long text || too_long tape) ≡ false → first_ill text ≡ Nothing → sound text s ≡ false
+root_judged : (text : List ℕ) (s : State) (tape : List ℕ) (m n : ℕ) → (too_long text || too_long tape) ≡ false → first_ill text ≡ None → sound text s ≡ false
     → judge_root text s tape m n ≡ refused refusal.Forged
 unfolding judge_root
 root_judged text s tape m n h g q = pass _ _ _ h ∙ fair _ _ _ g ∙ stop _ _ _ (ap (λ (b : Bool). not b || overfilled s m n) q)

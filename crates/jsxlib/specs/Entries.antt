@@ -1,45 +1,41 @@
 -- The entries over bytes and numbers: what each answers, and what its targets hold after. A refusal is answered by its number, with its figure
 -- beside it; 0 is no refusal.
-use Rattle.std.specs.Prelude.{ℕ, cond, List, length, replicate, eqb, ltb}
+use Rattle.std.specs.Prelude.{ℕ, cond, List, length, replicate, eqb, ltb, unwrap_or, Err, Ok, Result, ⊤}
 use Rattle.tape.specs.declared.refusal.Refusal.{Refusal}
 use Rattle.tape.specs.declared.refusal.Refusal.TheVariants as refusal
 use Rattle.tape.specs.Refusals.{number_of, figure_of}
 use Rattle.definitions.specs.declared.state.State.{State}
-use Rattle.definitions.specs.declared.state.Answer.{Answer}
-use Rattle.definitions.specs.declared.state.Answer.TheVariants as answer
-use Rattle.definitions.specs.declared.state.Written.{Written}
-use Rattle.definitions.specs.declared.state.Written.TheVariants as written
 use Rattle.definitions.specs.Judging.{Judged}
 use Rattle.definitions.specs.Entries.{OpeningOutcome, Outcome, opened, root_outcome, judge_records, records_answer, records_target}
 use Rattle.definitions.specs.Series.{World}
 use Rattle.lowering.specs.RootLists.{Run, run}
-use Rattle.packing.specs.Packed.{packed_target, unpacked, unpacked_answer}
+use Rattle.packing.specs.Packed.{packed_target, unpacked, no_state}
 use Rattle.resolved.specs.Resolved.{judge_source, judge_settings}
 
 -- the state that bytes are; bytes that are no state's stand for one that every entry refuses as forged
 abbrev pub state_from : List ℕ → State
-state_from bytes = (unpacked_answer (unpacked bytes)).state
+state_from bytes = unwrap_or (unpacked bytes) no_state
 
-unfoldable pub number_by : Answer → ℕ
-number_by answer.Accepted = 0
-number_by (answer.Refused r) = number_of r
+unfoldable pub number_by : {A : Type 0} → Result A Refusal → ℕ
+number_by (Ok x) = 0
+number_by (Err r) = number_of r
 
 -- the figure, where an accepted entry has this one
-unfoldable pub figure_by : ℕ → Answer → ℕ
-figure_by n answer.Accepted = n
-figure_by n (answer.Refused r) = figure_of r
+unfoldable pub figure_by : ℕ → Result ⊤ Refusal → ℕ
+figure_by n (Ok tt) = n
+figure_by n (Err r) = figure_of r
 
 -- the bytes of a state's target: only an accepted entry changes them
-unfoldable pub state_after : Answer → State → List ℕ → List ℕ
-state_after answer.Accepted s bytes = packed_target s bytes
-state_after (answer.Refused r) s bytes = bytes
+unfoldable pub state_after : Result ⊤ Refusal → State → List ℕ → List ℕ
+state_after (Ok tt) s bytes = packed_target s bytes
+state_after (Err r) s bytes = bytes
 
 -- ---- opening
 
 -- 10: the state's target has no room for it
-unfoldable pub without_room : Answer → Answer
-without_room answer.Accepted = answer.Refused (refusal.Space 102)
-without_room (answer.Refused r) = answer.Refused r
+unfoldable pub without_room : Result ⊤ Refusal → Result ⊤ Refusal
+without_room (Ok tt) = Err (refusal.Space 102)
+without_room (Err r) = Err r
 
 -- a notice target with room for the notices of any opening: two, of five bytes
 abbrev pub spare : List ℕ
@@ -71,13 +67,9 @@ kept_state taken s bytes = cond (eqb taken 0) bytes (packed_target s bytes)
 abbrev pub records_over : List ℕ → List ℕ → ℕ → Judged (List ℕ)
 records_over text state room = judge_records text (state_from state) room
 
-unfoldable pub records_number : Written → ℕ
-records_number (written.Accepted n) = 0
-records_number (written.Refused r) = number_of r
-
-unfoldable pub records_figure : Written → ℕ
-records_figure (written.Accepted n) = n
-records_figure (written.Refused r) = figure_of r
+unfoldable pub records_figure : Result ℕ Refusal → ℕ
+records_figure (Ok n) = n
+records_figure (Err r) = figure_of r
 
 -- ---- the settings after the comments, and the text of a source
 
@@ -107,7 +99,7 @@ unfoldable pub job_records : List ℕ → ℕ → World → List ℕ → JobRun
 job_records text taken w records =
     record {
       stage = 2;
-      number = records_number (records_answer (judge_records text w.state (length records)));
+      number = number_by (records_answer (judge_records text w.state (length records)));
       figure = records_figure (records_answer (judge_records text w.state (length records)));
       taken = taken;
       world = w;
@@ -115,14 +107,14 @@ job_records text taken w records =
     }
 
 -- by what the list of roots comes to
-unfoldable pub job_roots : List ℕ → Answer → ℕ → World → List ℕ → JobRun
-job_roots text answer.Accepted taken w records = job_records text taken w records
-job_roots text (answer.Refused x) taken w records = stopped 1 x taken w records
+unfoldable pub job_roots : List ℕ → Result ⊤ Refusal → ℕ → World → List ℕ → JobRun
+job_roots text (Ok tt) taken w records = job_records text taken w records
+job_roots text (Err x) taken w records = stopped 1 x taken w records
 
 -- by what the opening comes to
-unfoldable pub job_by : List ℕ → Answer → World → List ℕ → List ℕ → JobRun
-job_by text answer.Accepted w roots records = job_roots text (run text w roots).answer (run text w roots).taken (run text w roots).world records
-job_by text (answer.Refused x) w roots records = stopped 0 x 0 w records
+unfoldable pub job_by : List ℕ → Result ⊤ Refusal → World → List ℕ → List ℕ → JobRun
+job_by text (Ok tt) w roots records = job_roots text (run text w roots).answer (run text w roots).taken (run text w roots).world records
+job_by text (Err x) w roots records = stopped 0 x 0 w records
 
 -- opening, then the roots, then the records, each with its own refusals
 abbrev pub job_over : List ℕ → List ℕ → List ℕ → List ℕ → List ℕ → List ℕ → JobRun

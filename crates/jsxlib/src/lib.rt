@@ -3,94 +3,74 @@
 // targets as they are.
 #![tactic(auto)]
 
-ghost use Rattle.std.specs.Prelude.{◌≡◌, cond, ◌≤◌, length, take};
+ghost use Rattle.std.specs.Prelude.{◌≡◌, cond, ◌≤◌, length, take, is_some};
 ghost use Rattle.definitions.specs.declared.options.Settings.{Settings};
 ghost use Rattle.definitions.specs.Judging.{accepted};
 ghost use Rattle.definitions.specs.Opening.{judge_opening};
 ghost use Rattle.definitions.specs.Entries.{judge_records, records_answer, records_target};
 ghost use Rattle.lowering.specs.RootLists.{roots_in};
-ghost use Rattle.packing.specs.Packed.{unpacked, unpacked_answer};
+ghost use Rattle.packing.specs.Packed.{unpacked};
 ghost use Rattle.size_bound.specs.SizeBound.{call_size_bound, HoldsCalls};
-ghost use Rattle.jsxlib.specs.Entries.{state_from, number_by, figure_by, state_after, without_room, open_over, root_over, run_over, kept_state, records_over, records_number, records_figure, settings_over, source_over, job_over};
+ghost use Rattle.jsxlib.specs.Entries.{state_from, number_by, figure_by, state_after, without_room, open_over, root_over, run_over, kept_state, records_over, records_figure, settings_over, source_over, job_over};
 ghost use Rattle.jsxlib.specs.Hosts.{Served, Begins, Hosted};
 
-use definitions::state::{Answer, State, Written};
+use definitions::state::State;
 use lowering::lower_root;
 use lowering::series::lower_list;
 use packing::layout::STATE_SIZE;
-use packing::reading::unpack;
+use packing::reading::{no_state, unpack};
 use packing::writing::pack;
 use resolved::{write_settings, write_source};
 use settings::opening::open_job;
 use size_bound::call_size_bound;
 use store::module_imports::write_records;
-use tape::refusal::{FORGED, Refusal, figure, number};
-
-fn figure_by(answer: Answer, size: usize) -> usize
-    ensures { result ≡ figure_by size answer }
-{
-    match answer {
-        Answer::Accepted => size,
-        Answer::Refused(refusal) => figure(refusal),
-    }
-}
+use tape::refusal::{self, FORGED, Refusal};
 
 // The answer of an opening whose state has no room.
-fn without_room(answer: Answer) -> Answer
+#[tactic(auto, unfolding(crate::specs::Entries::without_room))]
+fn without_room(answer: Result<(), Refusal>) -> Result<(), Refusal>
     ensures { result ≡ without_room answer }
 {
-    match answer {
-        Answer::Accepted => Answer::Refused(Refusal::Space(STATE_SIZE)),
-        Answer::Refused(refusal) => Answer::Refused(refusal),
-    }
-}
-
-// The state of an accepted entry into its bytes, and the entry's number.
-fn settle(answer: Answer, state: State, bytes: &mut [u8]) -> u8
-    ensures number { result ≡ number_by answer }
-    ensures bytes_after { bytes.new ≡ state_after answer state bytes.old }
-{
-    match answer {
-        Answer::Accepted => {
-            pack(state, bytes);
-            0
-        }
-        Answer::Refused(refusal) => number(refusal),
-    }
-}
-
-fn records_number(answer: Written) -> u8
-    ensures { result ≡ records_number answer }
-{
-    match answer {
-        Written::Accepted(_) => 0,
-        Written::Refused(refusal) => number(refusal),
-    }
-}
-
-fn records_figure(answer: Written) -> usize
-    ensures { result ≡ records_figure answer }
-{
-    match answer {
-        Written::Accepted(size) => size,
-        Written::Refused(refusal) => figure(refusal),
-    }
+    answer.and(Err(Refusal::Space(STATE_SIZE)))
 }
 
 // The number of an answer, and its figure where the caller can read it.
-fn tell(answer: Written, figure: &mut usize) -> u8
-    ensures number { result ≡ records_number answer }
+#[tactic(auto, unfolding(crate::specs::Entries::number_by, crate::specs::Entries::records_figure))]
+fn tell(answer: Result<usize, Refusal>, figure: &mut usize) -> u8
+    ensures number { result ≡ number_by answer }
     ensures figure_after { figure.new ≡ records_figure answer }
 {
-    *figure = records_figure(answer);
-    records_number(answer)
+    let (number, told) = match answer {
+        Ok(size) => (0, size),
+        Err(refused) => (refusal::number(refused), refusal::figure(refused)),
+    };
+    *figure = told;
+    number
+}
+
+// The same of an answer without a figure of its own: where it is accepted, this one is told.
+#[tactic(auto, unfolding(crate::specs::Entries::number_by, crate::specs::Entries::figure_by, crate::specs::Entries::records_figure))]
+fn tell_with(answer: Result<(), Refusal>, size: usize, figure: &mut usize) -> u8
+    ensures number { result ≡ number_by answer }
+    ensures figure_after { figure.new ≡ figure_by size answer }
+{
+    tell(answer.and(Ok(size)), figure)
+}
+
+// The state of an accepted entry into its bytes.
+#[tactic(auto, unfolding(crate::specs::Entries::state_after))]
+fn settle(answer: Result<(), Refusal>, state: State, bytes: &mut [u8])
+    ensures { bytes.new ≡ state_after answer state bytes.old }
+{
+    if answer.is_ok() {
+        let _ = pack(state, bytes);
+    }
 }
 
 fn state_from(bytes: &[u8]) -> State
     ensures { result ≡ state_from bytes.now }
 {
-    let unpacked = unpack(bytes);
-    unpacked.state
+    unpack(bytes).unwrap_or_else(no_state)
 }
 
 // Opens a job over a text: the state's 102 bytes at the front of `state`, and what its pragmas tell at the front of `notices`, at most ten bytes. Where there is no
@@ -113,16 +93,12 @@ pub extern "C" fn jsx_open(
         // what is refused before that is told, and the caller's notices are left alone
         let mut spare = [0u8; 10];
         let tried = open_job(text, job, &mut spare);
-        let answered = tried.answer;
-        let told = without_room(answered);
-        *figure = figure_by(told, STATE_SIZE);
-        return number_by(told);
+        let told = without_room(tried.answer);
+        return tell_with(told, STATE_SIZE, figure);
     }
     let stepped = open_job(text, job, notices);
-    let answer = stepped.answer;
-    let opening = stepped.state;
-    *figure = figure_by(answer, STATE_SIZE);
-    settle(answer, opening, state)
+    settle(stepped.answer, stepped.state, state);
+    tell_with(stepped.answer, STATE_SIZE, figure)
 }
 
 // Lowers a root: its calls and notices behind those of the roots before it, and the state after it in place of the state before.
@@ -145,17 +121,8 @@ pub extern "C" fn jsx_root(
     let stepped = lower_root(text, from, tape, calls, notices);
     let answer = stepped.answer;
     let next = stepped.state;
-    *figure = figure_by(answer, 0);
-    settle(answer, next, state)
-}
-
-fn number_by(answer: Answer) -> u8
-    ensures { result ≡ number_by answer }
-{
-    match answer {
-        Answer::Accepted => 0,
-        Answer::Refused(refusal) => number(refusal),
-    }
+    settle(answer, next, state);
+    tell_with(answer, 0, figure)
 }
 
 // The state that so many roots left, into its bytes; no roots leave them as they are.
@@ -165,7 +132,7 @@ fn keep(taken: usize, state: State, bytes: &mut [u8])
     if taken == 0 {
         return;
     }
-    pack(state, bytes);
+    let _ = pack(state, bytes);
 }
 
 // Lowers the roots of a list in turn, up to the first that is refused, and tells how many were lowered. Each root stands behind its length, two
@@ -192,19 +159,17 @@ pub extern "C" fn jsx_roots(
     let told = listed.answer;
     let next = listed.state;
     *taken = listed.taken;
-    *figure = figure_by(told, 0);
     keep(listed.taken, next, state);
-    number_by(told)
+    tell_with(told, 0, figure)
 }
 
 // The record tape of a state: the number of the answer, and its figure.
 fn tell_records(text: &[u8], state: State, target: &mut [u8], figure: &mut usize) -> u8
-    ensures number { result ≡ records_number (records_answer (judge_records text.now state (length target.old))) }
+    ensures number { result ≡ number_by (records_answer (judge_records text.now state (length target.old))) }
     ensures figure_after { figure.new ≡ records_figure (records_answer (judge_records text.now state (length target.old))) }
     ensures target_after { target.new ≡ records_target target.old (judge_records text.now state (length target.old)) }
 {
-    let answer = write_records(text, state, target);
-    tell(answer, figure)
+    tell(write_records(text, state, target), figure)
 }
 
 // Writes the record tape; the figure is how many bytes it has.
@@ -215,7 +180,7 @@ pub extern "C" fn jsx_records(
     target: &mut [u8],
     figure: &mut usize,
 ) -> u8
-    ensures number { result ≡ records_number (records_answer (records_over text.now state.now (length target.old))) }
+    ensures number { result ≡ number_by (records_answer (records_over text.now state.now (length target.old))) }
     ensures figure_after { figure.new ≡ records_figure (records_answer (records_over text.now state.now (length target.old))) }
     ensures target_after { target.new ≡ records_target target.old (records_over text.now state.now (length target.old)) }
 {
@@ -230,12 +195,11 @@ pub extern "C" fn jsx_settings(
     target: &mut [u8],
     figure: &mut usize,
 ) -> u8
-    ensures number { result ≡ records_number (records_answer (settings_over text.now state.now (length target.old))) }
+    ensures number { result ≡ number_by (records_answer (settings_over text.now state.now (length target.old))) }
     ensures figure_after { figure.new ≡ records_figure (records_answer (settings_over text.now state.now (length target.old))) }
     ensures target_after { target.new ≡ records_target target.old (settings_over text.now state.now (length target.old)) }
 {
-    let answer = write_settings(text, state_from(state), target);
-    tell(answer, figure)
+    tell(write_settings(text, state_from(state), target), figure)
 }
 
 // The text of the source that a B0 of the record tape names, at the front of the target; the figure is how many bytes it has.
@@ -247,26 +211,28 @@ pub extern "C" fn jsx_source(
     target: &mut [u8],
     figure: &mut usize,
 ) -> u8
-    ensures number { result ≡ records_number (records_answer (source_over text.now state.now source (length target.old))) }
+    ensures number { result ≡ number_by (records_answer (source_over text.now state.now source (length target.old))) }
     ensures figure_after { figure.new ≡ records_figure (records_answer (source_over text.now state.now source (length target.old))) }
     ensures target_after { target.new ≡ records_target target.old (source_over text.now state.now source (length target.old)) }
 {
-    let answer = write_source(text, state_from(state), source, target);
-    tell(answer, figure)
+    tell(
+        write_source(text, state_from(state), source, target),
+        figure,
+    )
 }
 
 // How many bytes of the call target and of the notice target are filled: 0, or 12 where the bytes are no state's.
 #[unsafe(no_mangle)]
 pub extern "C" fn jsx_fills(state: &[u8], calls: &mut usize, notices: &mut usize) -> u8
-    ensures number { result ≡ cond (unpacked_answer (unpacked state.now)).good 0 12 }
+    ensures number { result ≡ cond (is_some (unpacked state.now)) 0 12 }
     ensures calls_after { calls.new ≡ (state_from state.now).calls }
     ensures notices_after { notices.new ≡ (state_from state.now).notices }
 {
     let told = unpack(state);
-    let from = told.state;
+    let from = told.unwrap_or_else(no_state);
     *calls = from.calls;
     *notices = from.notices;
-    if told.good {
+    if told.is_some() {
         return 0;
     }
     FORGED
@@ -313,15 +279,14 @@ pub extern "C" fn jsx_job(
     let opened = opening.answer;
     let from = opening.state;
     match opened {
-        Answer::Refused(_) => {
+        Err(_) => {
             *stage = 0;
             *taken = 0;
             *call_fill = from.calls;
             *notice_fill = from.notices;
-            *figure = figure_by(opened, 0);
-            number_by(opened)
+            tell_with(opened, 0, figure)
         }
-        Answer::Accepted => {
+        Ok(()) => {
             let lowered = lower_list(text, from, roots, calls, notices);
             let told = lowered.answer;
             let next = lowered.state;
@@ -329,12 +294,11 @@ pub extern "C" fn jsx_job(
             *call_fill = next.calls;
             *notice_fill = next.notices;
             match told {
-                Answer::Refused(_) => {
+                Err(_) => {
                     *stage = 1;
-                    *figure = figure_by(told, 0);
-                    number_by(told)
+                    tell_with(told, 0, figure)
                 }
-                Answer::Accepted => {
+                Ok(()) => {
                     *stage = 2;
                     tell_records(text, next, records, figure)
                 }

@@ -4,16 +4,16 @@
 --     job_fresh                               when a job is opened there are no calls, and its notices lie within their target
 --     records_within                          the records lie within their target
 -- Assumes nothing.
+use Rattle.std.specs.Prelude.{Err, Ok, Result}
+use Rattle.tape.specs.declared.refusal.Refusal.{Refusal}
 use mathlib.Core.Path.{◌≡◌, refl, sym, ap, subst, ◌∙◌}
 use mathlib.Core.List.{List, [], ◌∷◌}
 use Prim.Native.Nat.{ℕ, zero, suc, ◌+◌, ◌-◌, ◌≤◌, ◌<◌}
 use native.Mathlib.Omega.{arith}
-use lib.ListN.{length, take, drop}
+use lib.ListN.{length, take, drop, get_or, length-drop}
 use Rattle.definitions.specs.declared.options.Settings.{Settings}
 use Rattle.definitions.specs.declared.state.State.{State}
 use Rattle.definitions.specs.declared.state.Stepped.{Stepped}
-use Rattle.definitions.specs.declared.state.Written.{Written}
-use Rattle.definitions.specs.declared.state.Written.TheVariants as written
 use Rattle.definitions.specs.Judging.{Judged, accepted, refused}
 use Rattle.definitions.specs.Opening.{judge_opening}
 use Rattle.definitions.specs.Entries.{opened_by, opened, Lowered, judge_root, moved, outcome_by, root_outcome, judge_records, records_answer}
@@ -21,8 +21,10 @@ use Rattle.definitions.specs.Series.{World, outcome_in, next, series}
 use Rattle.definitions.proofs.Verdicts.{length_laid, root_taken, records_taken}
 use Rattle.definitions.proofs.Openings.{opening_opens}
 use Rattle.tape.specs.Numbers.{u16_at}
+use borrow.Author.Tests.{le-ltb}
+use Rattle.text.proofs.Lists.{drop_one}
 use Rattle.lowering.specs.RootLists.{roots_from, roots_in, roots_by}
-use Rattle.lowering.proofs.Listed.{cut_length, cut_root, whole, one_more}
+use Rattle.lowering.proofs.Listed.{cut_length, cut_root, one_more}
 use Rattle.jsxseries.specs.declared.series.First.{First}
 use Rattle.jsxseries.specs.declared.series.First.TheVariants.{Root, Missing}
 use Rattle.jsxseries.specs.Running.{world, first_of, Fits}
@@ -44,12 +46,21 @@ module _ (text : List ℕ) (w : World) (l : List ℕ) where
 
   pub first_unread : length l < 2 → Takes Missing w
   unfolding roots_by
-  first_unread h = missing (cut_length l 0 (omega arith))
+  first_unread h = missing (cut_length l h)
 
   module _ (h : 2 ≤ length l) (n : ℕ) (e : n ≡ u16_at l 0) where
     pub first_cut : length l - 2 < n → Takes Missing w
     unfolding roots_by
-    first_cut k = missing (cut_root l 0 h n e k)
+    first_cut k = missing (cut_root l h n e k)
+
+    whole : n ≤ length l - 2 → (most : ℕ) → roots_from (suc most) l ≡ take (2 + n - 2) (drop 2 l) ∷ roots_from most (drop n (drop 2 l))
+    unfolding roots_from
+    whole k most =
+        let two : l ≡ get_or l 0 0 ∷ get_or l 1 0 ∷ drop 2 l = drop_one l 0 (omega arith) ∙ ap (λ (u : List ℕ). get_or l 0 0 ∷ u) (drop_one l 1 (omega arith)) in
+        let same : n ≡ 2 + n - 2 = omega arith in
+        let read : roots_from (suc most) l ≡ take n (drop 2 l) ∷ roots_from most (drop n (drop 2 l)) =
+        rw (two, ← e, le-ltb (length (drop 2 l)) n (omega (arith, length-drop 2 l))) in
+        read ∙ ap (λ (m : ℕ). take m (drop 2 l) ∷ roots_from most (drop n (drop 2 l))) same
 
     pub first_root : n ≤ length l - 2 → {x : Stepped} {cs ns : List ℕ} → x ≡ (outcome_in text w (take (2 + n - 2) (drop 2 l))).stepped
         → cs ≡ (outcome_in text w (take (2 + n - 2) (drop 2 l))).calls → ns ≡ (outcome_in text w (take (2 + n - 2) (drop 2 l))).notices
@@ -62,7 +73,7 @@ module _ (text : List ℕ) (w : World) (l : List ℕ) where
 
         go : (most : ℕ) → 2 ≤ most → (Root x.answer ≡ first_of text w (roots_from most l)) × (world x.state cs ns ≡ series text w (take 1 (roots_from most l)))
         go zero j = absurd (omega arith)
-        go (suc most) j = rw (whole l 0 h n e k most) (ap (λ (y : Stepped). Root y.answer) p, one_more text w root p q r)
+        go (suc most) j = rw (whole k most) (ap (λ (y : Stepped). Root y.answer) p, one_more text w root p q r)
 
 -- ---- fills
 
@@ -106,10 +117,10 @@ job_fresh job text notices x e =
 
 -- ---- records
 
-pub records_within : (text : List ℕ) (s : State) (k n : ℕ) (w : Written) → w ≡ records_answer (judge_records text s k) → w ≡ written.Accepted n → n ≤ k
+pub records_within : (text : List ℕ) (s : State) (k n : ℕ) (w : Result ℕ Refusal) → w ≡ records_answer (judge_records text s k) → w ≡ Ok n → n ≤ k
 unfolding records_answer
 records_within text s k n w e f = go (judge_records text s k) refl (sym e ∙ f)
   where
-    go : (j : Judged (List ℕ)) → judge_records text s k ≡ j → records_answer j ≡ written.Accepted n → n ≤ k
+    go : (j : Judged (List ℕ)) → judge_records text s k ≡ j → records_answer j ≡ Ok n → n ≤ k
     go (accepted t) i g = let m : length t ≡ n = cc in omega (arith, records_taken text s k t i, m)
     go (refused r) i g = let z : ◌≡◌ {A = ℕ} 0 1 = cc in absurd (omega arith)

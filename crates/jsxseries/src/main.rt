@@ -7,7 +7,7 @@ mod series;
 ghost use Rattle.std.specs.Prelude.{◌≡◌, ◌≤◌, length};
 ghost use Rattle.jsxseries.specs.Running.{world, Fits};
 
-use definitions::state::{Answer, State, Written};
+use definitions::state::State;
 use files::{CANNOT_WRITE, print_line, print_refusal, read_file};
 use series::lower_all;
 use settings::opening::open_job;
@@ -24,8 +24,8 @@ fn print_records(
     line: &mut [u8],
 ) -> Result<()> {
     match write_records(text, state, records) {
-        Written::Refused(refusal) => print_refusal(out, refusal, line),
-        Written::Accepted(n) => print_line(out, b"records", &records[0..n], line),
+        Err(refusal) => print_refusal(out, refusal, line),
+        Ok(n) => print_line(out, b"records", &records[0..n], line),
     }
 }
 
@@ -90,8 +90,8 @@ fn run_job(
     let answer = opened.answer;
     let state = opened.state;
     match answer {
-        Answer::Refused(refusal) => print_refusal(&mut io::writer(rt), refusal, line),
-        Answer::Accepted => run_roots(rt, text, state, calls, notices, records, line),
+        Err(refusal) => print_refusal(&mut io::writer(rt), refusal, line),
+        Ok(()) => run_roots(rt, text, state, calls, notices, records, line),
     }
 }
 

@@ -4,16 +4,18 @@ ghost use Rattle.definitions.specs.Series.{series};
 ghost use Rattle.lowering.specs.RootLists.{roots_in};
 ghost use Rattle.jsxseries.specs.Running.{world, first_of, Fits};
 
-use definitions::state::{Answer, State};
+use definitions::state::State;
 use files::{print_line, print_refusal, read_full};
 use lowering::lower_root;
-use std::io::{Read, Result, Write};
+use std::io;
+use std::io::{Read, Write};
 use tape::numbers::read_u16;
+use tape::refusal::Refusal;
 
 // The first root of a list: its answer, or that there is no whole one.
 #[derive(Clone, Copy)]
 pub enum First {
-    Root(Answer),
+    Root(Result<(), Refusal>),
     Missing,
 }
 
@@ -70,10 +72,14 @@ fn read_root<R: Read>(list: &mut R, buffer: &mut [u8]) -> usize
     2 + read_full(list, &mut buffer[2..end])
 }
 
-fn print_answer(out: &mut impl Write, answer: Answer, line: &mut [u8]) -> Result<()> {
+fn print_answer(
+    out: &mut impl Write,
+    answer: Result<(), Refusal>,
+    line: &mut [u8],
+) -> io::Result<()> {
     match answer {
-        Answer::Refused(refusal) => print_refusal(out, refusal, line),
-        Answer::Accepted => print_line(out, b"accepted", b"", line),
+        Err(refusal) => print_refusal(out, refusal, line),
+        Ok(()) => print_line(out, b"accepted", b"", line),
     }
 }
 
@@ -81,7 +87,7 @@ fn print_answer(out: &mut impl Write, answer: Answer, line: &mut [u8]) -> Result
 #[derive(Clone, Copy)]
 pub struct Run {
     pub state: State,
-    pub written: Result<()>,
+    pub written: io::Result<()>,
 }
 
 // Lowers the roots of the list in turn, each from the buffer that it was read into, and prints an answer for each, up to the end of the list or a line

@@ -3,6 +3,7 @@
 --     job_refused, job_fresh, job_opened             by the answer of the opening
 --     parts                                          what is printed is a part of each target
 -- Assumes nothing.
+use Rattle.std.specs.Prelude.{Err, Ok, Result}
 use mathlib.Core.Path.{◌≡◌, refl, sym, ap, subst, ◌∙◌}
 use mathlib.Core.List.{List, ◌++◌}
 use Prim.Native.Nat.{ℕ, ◌+◌, ◌≤◌, zero-le}
@@ -11,10 +12,7 @@ use lib.ListN.{length, take}
 use Rattle.tape.specs.declared.refusal.Refusal.{Refusal}
 use Rattle.definitions.specs.declared.options.Settings.{Settings}
 use Rattle.definitions.specs.declared.state.State.{State}
-use Rattle.definitions.specs.declared.state.Answer.TheVariants as answer
 use Rattle.definitions.specs.declared.state.Stepped.{Stepped}
-use Rattle.definitions.specs.declared.state.Written.{Written}
-use Rattle.definitions.specs.declared.state.Written.TheVariants as written
 use Rattle.definitions.specs.Judging.{Judged, accepted, refused}
 use Rattle.definitions.specs.Opening.{opening_bytes, judge_opening}
 use Rattle.definitions.specs.Entries.{laid, opened_by, opened, open_state, Lowered, judge_root, moved, outcome_by, root_outcome, judge_records, records_answer, records_target}
@@ -34,12 +32,12 @@ turned_away p r cs ns rs e = record { shows = sym e; within = zero-le }
 
 -- ---- records
 
-records_by : (w : Written) (j : Judged (List ℕ)) (r : Refusal) → w ≡ records_answer j → w ≡ written.Refused r → j ≡ refused r
+records_by : (w : Result ℕ Refusal) (j : Judged (List ℕ)) (r : Refusal) → w ≡ records_answer j → w ≡ Err r → j ≡ refused r
 unfolding records_answer
 records_by w (accepted t) r e f = let z : ◌≡◌ {A = ℕ} 0 1 = cc in absurd (omega arith)
 records_by w (refused q) r e f = cc
 
-records_all : (w : Written) (j : Judged (List ℕ)) (n : ℕ) → w ≡ records_answer j → w ≡ written.Accepted n → (t : List ℕ) × (j ≡ accepted t) × (n ≡ length t)
+records_all : (w : Result ℕ Refusal) (j : Judged (List ℕ)) (n : ℕ) → w ≡ records_answer j → w ≡ Ok n → (t : List ℕ) × (j ≡ accepted t) × (n ≡ length t)
 unfolding records_answer
 records_all w (accepted t) n e f = (t, refl, cc)
 records_all w (refused r) n e f = let z : ◌≡◌ {A = ℕ} 0 1 = cc in absurd (omega arith)
@@ -58,17 +56,17 @@ module _ (text : List ℕ) (s : State) (root calls notices records : List ℕ) (
   unfolding root_outcome
   rooms = rw (h.calls_room, h.notices_room)
 
-  pub root_refused : (x : Stepped) (r : Refusal) (cs ns rs : List ℕ) → x ≡ (root_outcome text s root calls notices).stepped → x.answer ≡ answer.Refused r
+  pub root_refused : (x : Stepped) (r : Refusal) (cs ns rs : List ℕ) → x ≡ (root_outcome text s root calls notices).stepped → x.answer ≡ Err r
       → Ends (print_root text noticed s judged) (ended.Refused r) cs ns rs
   unfolding print_root outcome_by
   root_refused x r cs ns rs e g = turned_away _ r cs ns rs (go judged (sym (ap (λ (y : Stepped). y.answer) (e ∙ ap (λ o. o.stepped) rooms)) ∙ g))
     where
-      go : (j : Judged Lowered) → (outcome_by s calls notices j).stepped.answer ≡ answer.Refused r → print_root text noticed s j ≡ printed_refusal r
+      go : (j : Judged Lowered) → (outcome_by s calls notices j).stepped.answer ≡ Err r → print_root text noticed s j ≡ printed_refusal r
       go (accepted l) i = let z : ◌≡◌ {A = ℕ} 0 1 = cc in absurd (omega arith)
       go (refused q) i = let z : q ≡ r = cc in ap printed_refusal z
 
   -- what is known where the root is accepted
-  root_accepted : (x : Stepped) → x ≡ (root_outcome text s root calls notices).stepped → x.answer ≡ answer.Accepted
+  root_accepted : (x : Stepped) → x ≡ (root_outcome text s root calls notices).stepped → x.answer ≡ Ok tt
       → (l : Lowered) × (judged ≡ accepted l) × (x.state ≡ moved s l)
   unfolding outcome_by
   root_accepted x e g =
@@ -76,12 +74,12 @@ module _ (text : List ℕ) (s : State) (root calls notices records : List ℕ) (
       let k = go judged (sym (ap (λ (y : Stepped). y.answer) i) ∙ g) in
       (k.0, k.1, ap (λ (y : Stepped). y.state) i ∙ ap (λ j. (outcome_by s calls notices j).stepped.state) k.1)
     where
-      go : (j : Judged Lowered) → (outcome_by s calls notices j).stepped.answer ≡ answer.Accepted → (l : Lowered) × (j ≡ accepted l)
+      go : (j : Judged Lowered) → (outcome_by s calls notices j).stepped.answer ≡ Ok tt → (l : Lowered) × (j ≡ accepted l)
       go (accepted l) i = (l, refl)
       go (refused q) i = let z : ◌≡◌ {A = ℕ} 0 1 = cc in absurd (omega arith)
 
   -- with the answer and the target of the records
-  module _ (x : Stepped) (w : Written) (e : x ≡ (root_outcome text s root calls notices).stepped) (g : x.answer ≡ answer.Accepted)
+  module _ (x : Stepped) (w : Result ℕ Refusal) (e : x ≡ (root_outcome text s root calls notices).stepped) (g : x.answer ≡ Ok tt)
       (v : w ≡ records_answer (judge_records text x.state (length records))) where
     abbrev kept : (l : Lowered) × (judged ≡ accepted l) × (x.state ≡ moved s l)
     kept = root_accepted x e g
@@ -93,11 +91,11 @@ module _ (text : List ℕ) (s : State) (root calls notices records : List ℕ) (
     unfolding print_root
     prints = ap (print_root text noticed s) kept.1
 
-    pub records_refused : (r : Refusal) (cs ns rs : List ℕ) → w ≡ written.Refused r → Ends (print_root text noticed s judged) (ended.Refused r) cs ns rs
+    pub records_refused : (r : Refusal) (cs ns rs : List ℕ) → w ≡ Err r → Ends (print_root text noticed s judged) (ended.Refused r) cs ns rs
     unfolding print_records
     records_refused r cs ns rs k = turned_away _ r cs ns rs (prints ∙ ap (print_records noticed kept.0) (records_by w _ r (v ∙ ap records_answer after) k))
 
-    pub all_written : (n : ℕ) (cs ns rs : List ℕ) → w ≡ written.Accepted n → cs ≡ (root_outcome text s root calls notices).calls
+    pub all_written : (n : ℕ) (cs ns rs : List ℕ) → w ≡ Ok n → cs ≡ (root_outcome text s root calls notices).calls
         → ns ≡ (root_outcome text s root calls notices).notices → rs ≡ records_target records (judge_records text x.state (length records))
         → Ends (print_root text noticed s judged) (ended.Written x.state.calls x.state.notices n) cs ns rs
     unfolding print_records shown most outcome_by moved records_target
@@ -136,15 +134,15 @@ module _ (job text root notices : List ℕ) (h : length notices ≡ room) (x : S
   unfolding opened
   opening_judged = ap (λ (k : ℕ). opened_by text notices (judge_opening text job k)) h
 
-  pub job_refused : (r : Refusal) (cs ns rs : List ℕ) → x.answer ≡ answer.Refused r → Ends (jsxtape job text root) (ended.Refused r) cs ns rs
+  pub job_refused : (r : Refusal) (cs ns rs : List ℕ) → x.answer ≡ Err r → Ends (jsxtape job text root) (ended.Refused r) cs ns rs
   unfolding jsxtape print_opening opened_by
   job_refused r cs ns rs g = turned_away _ r cs ns rs (go judged_opening (sym (ap (λ (y : Stepped). y.answer) (e ∙ ap (λ o. o.stepped) opening_judged)) ∙ g))
     where
-      go : (j : Judged Settings) → (opened_by text notices j).stepped.answer ≡ answer.Refused r → print_opening text root j ≡ printed_refusal r
+      go : (j : Judged Settings) → (opened_by text notices j).stepped.answer ≡ Err r → print_opening text root j ≡ printed_refusal r
       go (accepted s) i = let z : ◌≡◌ {A = ℕ} 0 1 = cc in absurd (omega arith)
       go (refused q) i = let z : q ≡ r = cc in ap printed_refusal z
 
-  job_accepted : x.answer ≡ answer.Accepted
+  job_accepted : x.answer ≡ Ok tt
       → (s : Settings) × (judged_opening ≡ accepted s) × (x.state ≡ open_state text s) × (after ≡ laid 0 (opening_bytes text s) notices)
   unfolding opened_by
   job_accepted g =
@@ -156,22 +154,22 @@ module _ (job text root notices : List ℕ) (h : length notices ≡ room) (x : S
         n ∙ ap (λ o. o.notices) opening_judged ∙ ap (λ j. (opened_by text notices j).notices) k.1,
       )
     where
-      go : (j : Judged Settings) → (opened_by text notices j).stepped.answer ≡ answer.Accepted → (s : Settings) × (j ≡ accepted s)
+      go : (j : Judged Settings) → (opened_by text notices j).stepped.answer ≡ Ok tt → (s : Settings) × (j ≡ accepted s)
       go (accepted s) i = (s, refl)
       go (refused q) i = let z : ◌≡◌ {A = ℕ} 0 1 = cc in absurd (omega arith)
 
-  pub job_fresh : x.answer ≡ answer.Accepted → x.state.calls ≡ 0
+  pub job_fresh : x.answer ≡ Ok tt → x.state.calls ≡ 0
   job_fresh g = ap (λ (s : State). s.calls) (job_accepted g).2
 
   -- the opening's notices stand at the front of their target
-  job_noticed : (g : x.answer ≡ answer.Accepted) → take x.state.notices after ≡ opening_bytes text (job_accepted g).0
+  job_noticed : (g : x.answer ≡ Ok tt) → take x.state.notices after ≡ opening_bytes text (job_accepted g).0
   job_noticed g =
       let k = job_accepted g in
       let b = opening_bytes text k.0 in
       let fits = (opening_opens text job room k.0 k.1).fits in
       (λ ι. take (k.2 ι).notices (k.3 ι)) ∙ front_laid b notices (omega (arith, fits, h))
 
-  pub job_opened : (y : Ended) (cs ns rs : List ℕ) → x.answer ≡ answer.Accepted
+  pub job_opened : (y : Ended) (cs ns rs : List ℕ) → x.answer ≡ Ok tt
       → Ends (print_root text (take x.state.notices after) x.state (judge_root text x.state root room room)) y cs ns rs
       → Ends (jsxtape job text root) y cs ns rs
   unfolding jsxtape print_opening

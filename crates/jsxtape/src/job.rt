@@ -4,7 +4,7 @@ ghost use Rattle.definitions.specs.Entries.{judge_root};
 ghost use Rattle.definitions.specs.Program.{room, print_root, jsxtape};
 ghost use Rattle.jsxtape.specs.Endings.{Ends, Rooms};
 
-use definitions::state::{Answer, State, Written};
+use definitions::state::State;
 use lowering::lower_root;
 use settings::opening::open_job;
 use store::module_imports::write_records;
@@ -34,10 +34,10 @@ fn run_root(
     let answer = stepped.answer;
     let after = stepped.state;
     match answer {
-        Answer::Refused(refusal) => Ended::Refused(refusal),
-        Answer::Accepted => match write_records(text, after, records) {
-            Written::Refused(refusal) => Ended::Refused(refusal),
-            Written::Accepted(n) => Ended::Written(after.calls, after.notices, n),
+        Err(refusal) => Ended::Refused(refusal),
+        Ok(()) => match write_records(text, after, records) {
+            Err(refusal) => Ended::Refused(refusal),
+            Ok(n) => Ended::Written(after.calls, after.notices, n),
         },
     }
 }
@@ -58,7 +58,7 @@ pub fn run_job(
     let answer = opened.answer;
     let state = opened.state;
     match answer {
-        Answer::Refused(refusal) => Ended::Refused(refusal),
-        Answer::Accepted => run_root(text, state, root, calls, notices, records),
+        Err(refusal) => Ended::Refused(refusal),
+        Ok(()) => run_root(text, state, root, calls, notices, records),
     }
 }

@@ -6,6 +6,7 @@
 --     equations                                   the three equations of an outcome
 --     known, known_judged, going_after            where text and state are in order already, and that they are behind an accepted root
 -- Assumes nothing.
+use Rattle.std.specs.Prelude.{Err, Ok, Some}
 use mathlib.Core.Path.{◌≡◌, refl, sym, ap, ◌∙◌}
 use mathlib.Core.Bool.{true, false, not, ◌||◌}
 use mathlib.Core.List.{List}
@@ -14,13 +15,10 @@ use native.Mathlib.Omega.{arith}
 use lib.ListN.{length}
 use lib.Dec.{ltb}
 use borrow.Author.Tests.{lt-ltb, le-ltb, ltb-false, not-false}
-use Rattle.text.specs.declared.bytes.Found.TheVariants.{At}
 use Rattle.text.specs.Utf8.{first_ill}
-use Rattle.tape.specs.declared.refusal.Fault.{Fault}
 use Rattle.tape.specs.declared.refusal.Refusal.{Refusal}
 use Rattle.tape.specs.declared.refusal.Refusal.TheVariants as refusal
 use Rattle.definitions.specs.declared.state.State.{State}
-use Rattle.definitions.specs.declared.state.Answer.TheVariants as answer
 use Rattle.definitions.specs.declared.state.Stepped.{Stepped}
 use Rattle.definitions.specs.Judging.{Parsed, done, stop, Judged, accepted, refused, refuse, refuse_at, read}
 use Rattle.definitions.specs.Tree.{Root}
@@ -30,7 +28,7 @@ use Rattle.definitions.specs.Entries.{Lowered, Outcome, lowered_after, fitted, j
 use Rattle.definitions.proofs.Verdicts.{past, past_at, length_laid, sound_parts, Taken, root_taken}
 use Rattle.definitions.proofs.Moving.{root_sound}
 use Rattle.definitions.proofs.Counting.{either_false}
-use Rattle.root_check.specs.declared.check.Checked.TheVariants as checks
+use Rattle.root_check.specs.declared.check.TapeError.{TapeError}
 use Rattle.root_check.specs.Checking.{checked}
 use Rattle.lowering.specs.Steps.{Text, Going, Unforged, judge_tape, tape_outcome, answer_of, Comes}
 
@@ -40,7 +38,7 @@ equations c = (c.answered, (c.called, c.noticed))
 -- ---- what a refusal comes to
 
 abbrev pub away : State → Refusal → Stepped
-away s r = record { answer = answer.Refused r; state = s }
+away s r = record { answer = Err r; state = s }
 
 turned_away : (s : State) (cs ns : List ℕ) {j : Judged Lowered} {t : Stepped} {r : Refusal} → j ≡ refused r → t ≡ away s r → Comes (outcome_by s cs ns j) t cs ns
 unfolding outcome_by
@@ -57,7 +55,7 @@ module _ (text : List ℕ) (s : State) (tape cs ns : List ℕ) {t : Stepped} whe
   unfolding root_outcome judge_root refuse
   tape_long h k e = turned_away s cs ns (rw (le-ltb 65535 (length text) h, lt-ltb 65535 (length tape) k)) e
 
-  pub ill_formed : (p : ℕ) → length text ≤ 65535 → length tape ≤ 65535 → first_ill text ≡ At p → t ≡ away s (refusal.NotUtf8 p)
+  pub ill_formed : (p : ℕ) → length text ≤ 65535 → length tape ≤ 65535 → first_ill text ≡ Some p → t ≡ away s (refusal.NotUtf8 p)
       → Comes (root_outcome text s tape cs ns) t cs ns
   unfolding root_outcome judge_root refuse refuse_at
   ill_formed p h k f e = turned_away s cs ns (rw (le-ltb 65535 (length text) h, le-ltb 65535 (length tape) k, f)) e
@@ -90,28 +88,28 @@ few_records {text} {s} u = (sound_parts text s u.bore).few
 
 -- ---- the tape
 
-stopped : {A B : Type 0} (x : Parsed A) (k : A → Judged B) (f : Fault) (p : ℕ) → checked x ≡ checks.Bad f p → read x k ≡ refused (refusal.Tape f p)
+stopped : {A B : Type 0} (x : Parsed A) (k : A → Judged B) (e : TapeError) → checked x ≡ Err e → read x k ≡ refused (refusal.Tape e.fault e.place)
 unfolding checked read
-stopped (done a u) k f p e = let z : ◌≡◌ {A = ℕ} 0 1 = cc in absurd (omega arith)
-stopped (stop g q) k f p e = let y : g ≡ f = cc in let z : q ≡ p = cc in λ ι. refused (refusal.Tape (y ι) (z ι))
+stopped (done a u) k e h = let z : ◌≡◌ {A = ℕ} 0 1 = cc in absurd (omega arith)
+stopped (stop g q) k e h = let y : g ≡ e.fault = cc in let z : q ≡ e.place = cc in λ ι. refused (refusal.Tape (y ι) (z ι))
 
-was_refused : (j : Judged Lowered) {r : Refusal} → answer_of j ≡ answer.Refused r → j ≡ refused r
+was_refused : (j : Judged Lowered) {r : Refusal} → answer_of j ≡ Err r → j ≡ refused r
 unfolding answer_of
 was_refused (accepted l) e = let z : ◌≡◌ {A = ℕ} 0 1 = cc in absurd (omega arith)
 was_refused (refused r) e = cc
 
-was_accepted : (j : Judged Lowered) → answer_of j ≡ answer.Accepted → (l : Lowered) × (j ≡ accepted l)
+was_accepted : (j : Judged Lowered) → answer_of j ≡ Ok tt → (l : Lowered) × (j ≡ accepted l)
 unfolding answer_of
 was_accepted (accepted l) e = (l, refl)
 was_accepted (refused r) e = let z : ◌≡◌ {A = ℕ} 0 1 = cc in absurd (omega arith)
 
 module _ (text : List ℕ) (s : State) (tape cs ns : List ℕ) {t : Stepped} where
-  pub bad_tape : (f : Fault) (p : ℕ) → checked (read_root text tape) ≡ checks.Bad f p → t ≡ away s (refusal.Tape f p)
+  pub bad_tape : (e : TapeError) → checked (read_root text tape) ≡ Err e → t ≡ away s (refusal.Tape e.fault e.place)
       → Comes (tape_outcome text s tape cs ns) t cs ns
   unfolding tape_outcome judge_tape
-  bad_tape f p e g = turned_away s cs ns (stopped (read_root text tape) _ f p e) g
+  bad_tape e h g = turned_away s cs ns (stopped (read_root text tape) _ e h) g
 
-  pub not_fitting : {r : Refusal} → answer_of (judge_tape text s tape (length cs) (length ns)) ≡ answer.Refused r → t ≡ away s r
+  pub not_fitting : {r : Refusal} → answer_of (judge_tape text s tape (length cs) (length ns)) ≡ Err r → t ≡ away s r
       → Comes (tape_outcome text s tape cs ns) t cs ns
   unfolding tape_outcome
   not_fitting e g = turned_away s cs ns (was_refused _ e) g
@@ -123,7 +121,7 @@ good_tape text s tape call_room notice_room o u e = rw e
 
 -- ---- what fits
 
-pub fits : (s : State) (call_room notice_room : ℕ) (l : Lowered) → answer_of (fitted s call_room notice_room l) ≡ answer.Accepted
+pub fits : (s : State) (call_room notice_room : ℕ) (l : Lowered) → answer_of (fitted s call_room notice_room l) ≡ Ok tt
     → (length l.bound ≤ 8) × (length l.calls ≤ call_room - s.calls) × (length l.notices ≤ notice_room - s.notices)
     × (fitted s call_room notice_room l ≡ accepted l)
 unfolding fitted
@@ -150,12 +148,12 @@ module _ (text : List ℕ) (s : State) (tape cs ns : List ℕ) (g : Going text s
   known_judged c = judged text s tape cs ns in_order not_forged c
 
 -- behind an accepted root they are
-going_on : (text : List ℕ) (s : State) (tape cs ns : List ℕ) → (root_outcome text s tape cs ns).stepped.answer ≡ answer.Accepted
+going_on : (text : List ℕ) (s : State) (tape cs ns : List ℕ) → (root_outcome text s tape cs ns).stepped.answer ≡ Ok tt
     → Going text (root_outcome text s tape cs ns).stepped.state (length (root_outcome text s tape cs ns).calls) (length (root_outcome text s tape cs ns).notices)
 unfolding root_outcome outcome_by judge_root moved
 going_on text s tape cs ns e = go (judge_root text s tape (length cs) (length ns)) refl e
   where
-    go : (j : Judged Lowered) → judge_root text s tape (length cs) (length ns) ≡ j → (outcome_by s cs ns j).stepped.answer ≡ answer.Accepted
+    go : (j : Judged Lowered) → judge_root text s tape (length cs) (length ns) ≡ j → (outcome_by s cs ns j).stepped.answer ≡ Ok tt
         → Going text (outcome_by s cs ns j).stepped.state (length (outcome_by s cs ns j).calls) (length (outcome_by s cs ns j).notices)
     go (accepted l) f h =
         let t : Taken text s tape (length cs) (length ns) l = root_taken text s tape (length cs) (length ns) l f in
@@ -171,6 +169,6 @@ going_on text s tape cs ns e = go (judge_root text s tape (length cs) (length ns
     go (refused r) f h = let z : ◌≡◌ {A = ℕ} 0 1 = cc in absurd (omega arith)
 
 pub going_after : (text : List ℕ) (s : State) (tape cs ns : List ℕ) {t : Stepped} {cs' ns' : List ℕ} → Comes (root_outcome text s tape cs ns) t cs' ns'
-    → t.answer ≡ answer.Accepted → Going text t.state (length cs') (length ns')
+    → t.answer ≡ Ok tt → Going text t.state (length cs') (length ns')
 going_after text s tape cs ns {t} c e =
     rw (c.answered, c.called, c.noticed) (going_on text s tape cs ns (sym (ap (λ (x : Stepped). x.answer) c.answered) ∙ e))

@@ -1,12 +1,12 @@
 -- Lists of roots (`roots_in` of specs/RootLists) as the loop over them goes: what is ahead at a place, and what is left of a series of roots there.
 --     cut_length, cut_root, whole             what is ahead, by the code's tests
---     root_short                              a root of a list is no longer than a tape may be
 --     one_more                                what a root's outcome makes of a world
 --     Left, left_all, left_root, left_end     the series from a place of the list on
 --     Row, row_all, row_end, row_refused, row_root     the same up to the first root that is refused
 --     list_long, list_ill, list_forged, list_going, list_tested     text and state before the roots, by the code's tests
 --     run_is                                  what a run comes to; what it leaves is a series of roots
 -- Assumes nothing.
+use Rattle.std.specs.Prelude.{Err, None, Ok, Option, Result, Some, ⊤}
 use mathlib.Core.Path.{◌≡◌, refl, sym, ap, subst, ◌∙◌}
 use mathlib.Core.Bool.{Bool, true, false, not, ◌||◌}
 use mathlib.Core.List.{List, [], ◌∷◌}
@@ -14,18 +14,13 @@ use Prim.Native.Nat.{ℕ, zero, suc, ◌+◌, ◌-◌, ◌≤◌, ◌<◌}
 use native.Mathlib.Omega.{arith}
 use native.Mathlib.Nat.{add-zero}
 use lib.ListN.{length, take, drop, get_or, length-drop}
-use lib.Seq.{drop-drop, length-take-le}
 use borrow.Author.Tests.{lt-ltb, le-ltb}
 use Rattle.text.proofs.Lists.{drop_one}
 use Rattle.tape.specs.Numbers.{u16_at}
-use Rattle.text.specs.declared.bytes.Found.{Found}
-use Rattle.text.specs.declared.bytes.Found.TheVariants.{At, Nothing}
 use Rattle.text.specs.Utf8.{first_ill}
 use Rattle.tape.specs.declared.refusal.Refusal.{Refusal}
 use Rattle.tape.specs.declared.refusal.Refusal.TheVariants as refusal
 use Rattle.definitions.specs.declared.state.State.{State}
-use Rattle.definitions.specs.declared.state.Answer.{Answer}
-use Rattle.definitions.specs.declared.state.Answer.TheVariants.{Accepted, Refused}
 use Rattle.definitions.specs.declared.state.Stepped.{Stepped}
 use Rattle.definitions.specs.Judging.{Judged, accepted, refuse, refuse_at}
 use Rattle.definitions.specs.States.{sound, overfilled}
@@ -35,11 +30,9 @@ use Rattle.definitions.specs.Opening.{judge_opening}
 use Rattle.definitions.specs.Claim.{Kept}
 use Rattle.definitions.proofs.RootSeries.{refused_same}
 use Rattle.definitions.proofs.Demand3.{demand3}
-use Rattle.lowering.specs.declared.series.Ahead.{Ahead}
-use Rattle.lowering.specs.declared.series.Ahead.TheVariants.{Root, End}
 use Rattle.lowering.specs.declared.series.Listed.{Listed}
 use Rattle.lowering.specs.Steps.{Going}
-use Rattle.lowering.specs.RootLists.{roots_from, roots_in, roots_by, Run, run_by, run_of, list_bytes, ending, run_tested, judge_list, judged_run, run, ran, Stands}
+use Rattle.lowering.specs.RootLists.{roots_from, roots_in, roots_by, Run, run_by, run_of, list_bytes, ending, run_tested, judge_list, judged_run, run, ran, Ahead, Stands}
 use Rattle.lowering.proofs.Judging.{unforged}
 
 -- ---- what is ahead
@@ -50,31 +43,22 @@ short [] most h = refl
 short (a ∷ []) most h = refl
 short (a ∷ b ∷ l) most h = absurd (omega arith)
 
-module _ (l : List ℕ) (at : ℕ) where
-  pub cut_length : length l - at < 2 → (most : ℕ) → roots_from (suc most) (drop at l) ≡ roots_by most l End
-  unfolding roots_by
-  cut_length h most = short (drop at l) most (omega (arith, length-drop at l))
+pub cut_length : (l : List ℕ) → length l < 2 → (most : ℕ) → roots_from (suc most) l ≡ roots_by most None
+unfolding roots_by
+cut_length l h most = short l most h
 
-  module _ (h : at + 2 ≤ length l) where
-    two : drop at l ≡ get_or l at 0 ∷ get_or l (at + 1) 0 ∷ drop (at + 2) l
-    two =
-        let e : at + 1 + 1 ≡ at + 2 = omega arith in
-        drop_one l at (omega arith) ∙ ap (λ (u : List ℕ). get_or l at 0 ∷ u) (drop_one l (at + 1) (omega arith) ∙ ap (λ (i : ℕ). get_or l (at + 1) 0 ∷ drop i l) e)
+module _ (l : List ℕ) (h : 2 ≤ length l) where
+  two : l ≡ get_or l 0 0 ∷ get_or l 1 0 ∷ drop 2 l
+  two = drop_one l 0 (omega arith) ∙ ap (λ (u : List ℕ). get_or l 0 0 ∷ u) (drop_one l 1 (omega arith))
 
-    pub cut_root : (n : ℕ) → n ≡ u16_at l at → length l - (at + 2) < n → (most : ℕ) → roots_from (suc most) (drop at l) ≡ roots_by most l End
-    unfolding roots_from roots_by
-    cut_root n e k most =
-        rw (two, ← e, lt-ltb (length (drop (at + 2) l)) n (omega (arith, length-drop (at + 2) l)))
+  pub cut_root : (n : ℕ) → n ≡ u16_at l 0 → length l - 2 < n → (most : ℕ) → roots_from (suc most) l ≡ roots_by most None
+  unfolding roots_from roots_by
+  cut_root n e k most = rw (two, ← e, lt-ltb (length (drop 2 l)) n (omega (arith, length-drop 2 l)))
 
-    pub whole : (n : ℕ) → n ≡ u16_at l at → n ≤ length l - (at + 2) → (most : ℕ)
-        → roots_from (suc most) (drop at l) ≡ roots_by most l (Root (at + 2) (at + 2 + n))
-    unfolding roots_from roots_by
-    whole n e k most =
-        let d : at + 2 + n - (at + 2) ≡ n = omega arith in
-        rw (two, ← e, le-ltb (length (drop (at + 2) l)) n (omega (arith, length-drop (at + 2) l)), d, drop-drop n (at + 2) l)
-
-pub root_short : (l : List ℕ) (at a e : ℕ) → Stands l at (Root a e) → length (take (e - a) (drop a l)) ≤ 65535
-root_short l at a e s = omega (arith, length-take-le (e - a) (drop a l) (omega (arith, length-drop a l, s)), s)
+  pub whole : (n : ℕ) (r : Ahead) → n ≡ u16_at l 0 → n ≤ length l - 2 → r.0.now ≡ take n (drop 2 l) → r.1.now ≡ drop n (drop 2 l) → (most : ℕ)
+      → roots_from (suc most) l ≡ roots_by most (Some r)
+  unfolding roots_from roots_by
+  whole n r e k f g most = rw (two, ← e, le-ltb (length (drop 2 l)) n (omega (arith, length-drop 2 l)), f, g)
 
 -- ---- a root more
 
@@ -85,37 +69,36 @@ one_more text w root e f g = λ ι. record { state = (e ι).state; calls = f ι;
 
 -- ---- what is left
 
--- from a place of the list on, in a world, the series comes to what it comes to from its beginning
-pub record Left (text l : List ℕ) (begun : World) (at : ℕ) (w : World) : Type 0 where
-  pub within : at ≤ length l
+-- from the rest of the list on, in a world, the series comes to what it comes to from its beginning
+pub record Left (text l : List ℕ) (begun : World) (rest : List ℕ) (w : World) : Type 0 where
   pub most : ℕ
-  pub enough : length l ≤ most + at
-  pub same : series text begun (roots_in l) ≡ series text w (roots_from most (drop at l))
+  pub enough : length rest ≤ most
+  pub same : series text begun (roots_in l) ≡ series text w (roots_from most rest)
 
-pub left_all : (text l : List ℕ) (w : World) → Left text l w 0 w
+pub left_all : (text l : List ℕ) (w : World) → Left text l w l w
 unfolding roots_in
-left_all text l w = record { within = omega arith; most = length l; enough = omega arith; same = refl }
+left_all text l w = record { most = length l; enough = omega arith; same = refl }
 
-module _ {text l : List ℕ} {begun : World} {at : ℕ} {w : World} (left : Left text l begun at w) {r : Ahead}
-    (ahead : (most : ℕ) → roots_from (suc most) (drop at l) ≡ roots_by most l r) where
-  pub left_end : r ≡ End → series text begun (roots_in l) ≡ w
+module _ {text l : List ℕ} {begun : World} {rest : List ℕ} {w : World} (left : Left text l begun rest w) {r : Option Ahead}
+    (ahead : (most : ℕ) → roots_from (suc most) rest ≡ roots_by most r) where
+  pub left_end : r ≡ None → series text begun (roots_in l) ≡ w
   unfolding roots_from roots_by series
   left_end e = left.same ∙ go left.most
     where
-      go : (most : ℕ) → series text w (roots_from most (drop at l)) ≡ w
+      go : (most : ℕ) → series text w (roots_from most rest) ≡ w
       go zero = refl
       go (suc most) = rw (ahead most, e)
 
-  pub left_root : {a e : ℕ} {w' : World} → r ≡ Root a e → Stands l at r → w' ≡ next text w (take (e - a) (drop a l)) → Left text l begun e w'
+  pub left_root : {x : Ahead} {w' : World} → r ≡ Some x → Stands rest r → w' ≡ next text w x.0.now → Left text l begun x.1.now w'
   unfolding roots_by series
-  left_root {a} {e} {w'} f stands step =
-      subst (λ (x : World). Left text l begun e x) (sym step) (go left.most left.enough left.same (rw f at stands))
+  left_root {x} {w'} f stands step =
+      subst (λ (y : World). Left text l begun x.1.now y) (sym step) (go left.most left.enough left.same (rw f at stands))
     where
-      go : (most : ℕ) → length l ≤ most + at → series text begun (roots_in l) ≡ series text w (roots_from most (drop at l)) → Stands l at (Root a e)
-          → Left text l begun e (next text w (take (e - a) (drop a l)))
+      go : (most : ℕ) → length rest ≤ most → series text begun (roots_in l) ≡ series text w (roots_from most rest) → Stands rest (Some x)
+          → Left text l begun x.1.now (next text w x.0.now)
       go zero n s h = absurd (omega arith)
       go (suc most) n s h =
-          record { within = omega arith; most = most; enough = omega arith; same = s ∙ ap (series text w) (ahead most ∙ ap (roots_by most l) f) }
+          record { most = most; enough = omega arith; same = s ∙ ap (series text w) (ahead most ∙ ap (roots_by most) f) }
 
 -- ---- up to the first root that is refused
 
@@ -123,116 +106,111 @@ module _ {text l : List ℕ} {begun : World} {at : ℕ} {w : World} (left : Left
 abbrev pub behind : ℕ → Run → Run
 behind n r = record { answer = r.answer; world = r.world; taken = n + r.taken }
 
--- from a place of the list on, behind n roots and in a world, the run is what it is from its beginning
-pub record Row (text l : List ℕ) (begun : World) (at n : ℕ) (w : World) : Type 0 where
-  pub within : at ≤ length l
-  pub counted : n ≤ at
+-- from the rest of the list on, behind n roots and in a world, the run is what it is from its beginning
+pub record Row (text l : List ℕ) (begun : World) (rest : List ℕ) (n : ℕ) (w : World) : Type 0 where
+  pub counted : n + length rest ≤ length l
   pub most : ℕ
-  pub enough : length l ≤ most + at
-  pub whole : at + list_bytes (roots_from most (drop at l)) ≡ list_bytes (roots_in l)
-  pub same : run_tested text begun l ≡ behind n (run_of text w (ending (length l) (list_bytes (roots_in l))) (roots_from most (drop at l)))
+  pub enough : length rest ≤ most
+  pub whole : length l + list_bytes (roots_from most rest) ≡ length rest + list_bytes (roots_in l)
+  pub same : run_tested text begun l ≡ behind n (run_of text w (ending (length l) (list_bytes (roots_in l))) (roots_from most rest))
 
-pub row_all : (text l : List ℕ) (w : World) → Row text l w 0 0 w
+pub row_all : (text l : List ℕ) (w : World) → Row text l w l 0 w
 unfolding roots_in run_tested
 row_all text l w =
     let e = ending (length l) (list_bytes (roots_in l)) in
     let z : 0 + (run_of text w e (roots_from (length l) l)).taken ≡ (run_of text w e (roots_from (length l) l)).taken = omega arith in
     record {
-      within = omega arith;
       counted = omega arith;
       most = length l;
       enough = omega arith;
-      whole = omega arith;
+      whole = refl;
       same = sym (λ ι. record { answer = (run_of text w e (roots_from (length l) l)).answer; world = (run_of text w e (roots_from (length l) l)).world; taken = z ι });
     }
 
-module _ {text l : List ℕ} {begun : World} {at n : ℕ} {w : World} (row : Row text l begun at n w) {r : Ahead}
-    (ahead : (most : ℕ) → roots_from (suc most) (drop at l) ≡ roots_by most l r) where
-  pub row_end : r ≡ End → run_tested text begun l ≡ record { answer = ending (length l) at; world = w; taken = n }
+module _ {text l : List ℕ} {begun : World} {rest : List ℕ} {n : ℕ} {w : World} (row : Row text l begun rest n w) {r : Option Ahead}
+    (ahead : (most : ℕ) → roots_from (suc most) rest ≡ roots_by most r) where
+  pub row_end : r ≡ None → run_tested text begun l ≡ record { answer = ending (length l) (length l - length rest); world = w; taken = n }
   unfolding roots_from roots_by run_of list_bytes
   row_end e = row.same ∙ go row.most row.whole
     where
-      go : (most : ℕ) → at + list_bytes (roots_from most (drop at l)) ≡ list_bytes (roots_in l)
-          → behind n (run_of text w (ending (length l) (list_bytes (roots_in l))) (roots_from most (drop at l)))
-          ≡ record { answer = ending (length l) at; world = w; taken = n }
+      go : (most : ℕ) → length l + list_bytes (roots_from most rest) ≡ length rest + list_bytes (roots_in l)
+          → behind n (run_of text w (ending (length l) (list_bytes (roots_in l))) (roots_from most rest))
+          ≡ record { answer = ending (length l) (length l - length rest); world = w; taken = n }
       go zero h =
-          let k : list_bytes (roots_in l) ≡ at = omega arith in
+          let k : list_bytes (roots_in l) ≡ length l - length rest = omega (arith, h, row.counted) in
           λ ι. record { answer = ending (length l) (k ι); world = w; taken = add-zero n ι }
       go (suc most) h =
-          let q : roots_from (suc most) (drop at l) ≡ [] = ahead most ∙ ap (roots_by most l) e in
-          let b : list_bytes (roots_from (suc most) (drop at l)) ≡ 0 = ap list_bytes q in
-          let k : list_bytes (roots_in l) ≡ at = omega arith in
+          let q : roots_from (suc most) rest ≡ [] = ahead most ∙ ap (roots_by most) e in
+          let b : list_bytes (roots_from (suc most) rest) ≡ 0 = ap list_bytes q in
+          let k : list_bytes (roots_in l) ≡ length l - length rest = omega (arith, h, b, row.counted) in
           ap (λ (x : List (List ℕ)). behind n (run_of text w (ending (length l) (list_bytes (roots_in l))) x)) q
           ∙ λ ι. record { answer = ending (length l) (k ι); world = w; taken = add-zero n ι }
 
-  module _ {a e : ℕ} (f : r ≡ Root a e) (stands : Stands l at r) where
-    here : Stands l at (Root a e)
+  module _ {x : Ahead} (f : r ≡ Some x) (stands : Stands rest r) where
+    here : Stands rest (Some x)
     here = rw f at stands
 
-    ahead_root : (most : ℕ) → roots_from (suc most) (drop at l) ≡ take (e - a) (drop a l) ∷ roots_from most (drop e l)
+    ahead_root : (most : ℕ) → roots_from (suc most) rest ≡ x.0.now ∷ roots_from most x.1.now
     unfolding roots_by
-    ahead_root most = ahead most ∙ ap (roots_by most l) f
+    ahead_root most = ahead most ∙ ap (roots_by most) f
 
     -- the run over the root that is ahead
-    over : (most : ℕ) → behind n (run_of text w (ending (length l) (list_bytes (roots_in l))) (roots_from (suc most) (drop at l)))
+    over : (most : ℕ) → behind n (run_of text w (ending (length l) (list_bytes (roots_in l))) (roots_from (suc most) rest))
         ≡ behind n
-        (run_by (outcome_in text w (take (e - a) (drop a l))).stepped.answer w
-        (run_of text (next text w (take (e - a) (drop a l))) (ending (length l) (list_bytes (roots_in l))) (roots_from most (drop e l))))
+        (run_by (outcome_in text w x.0.now).stepped.answer w
+        (run_of text (next text w x.0.now) (ending (length l) (list_bytes (roots_in l))) (roots_from most x.1.now)))
     unfolding run_of
-    over most = ap (λ (x : List (List ℕ)). behind n (run_of text w (ending (length l) (list_bytes (roots_in l))) x)) (ahead_root most)
+    over most = ap (λ (y : List (List ℕ)). behind n (run_of text w (ending (length l) (list_bytes (roots_in l))) y)) (ahead_root most)
 
-    pub row_refused : {x : Refusal} {w' : World} → (outcome_in text w (take (e - a) (drop a l))).stepped.answer ≡ Refused x
-        → w' ≡ next text w (take (e - a) (drop a l)) → run_tested text begun l ≡ record { answer = Refused x; world = w'; taken = n }
+    pub row_refused : {z : Refusal} {w' : World} → (outcome_in text w x.0.now).stepped.answer ≡ Err z
+        → w' ≡ next text w x.0.now → run_tested text begun l ≡ record { answer = Err z; world = w'; taken = n }
     unfolding run_by
-    row_refused {x} {w'} g step =
+    row_refused {z} {w'} g step =
         row.same ∙ go row.most row.enough
-        ∙ sym (ap (λ (v : World). record { answer = Refused x; world = v; taken = n }) (step ∙ refused_same text w (take (e - a) (drop a l)) x g))
+        ∙ sym (ap (λ (v : World). record { answer = Err z; world = v; taken = n }) (step ∙ refused_same text w x.0.now z g))
       where
-        go : (most : ℕ) → length l ≤ most + at
-            → behind n (run_of text w (ending (length l) (list_bytes (roots_in l))) (roots_from most (drop at l))) ≡ record { answer = Refused x; world = w; taken = n }
+        go : (most : ℕ) → length rest ≤ most
+            → behind n (run_of text w (ending (length l) (list_bytes (roots_in l))) (roots_from most rest)) ≡ record { answer = Err z; world = w; taken = n }
         go zero h = absurd (omega (arith, here))
         go (suc most) h =
             over most
             ∙ ap
-            (λ (y : Answer). behind n (run_by y w (run_of text (next text w (take (e - a) (drop a l))) (ending (length l) (list_bytes (roots_in l))) (roots_from most (drop e l)))))
+            (λ (y : Result ⊤ Refusal). behind n (run_by y w (run_of text (next text w x.0.now) (ending (length l) (list_bytes (roots_in l))) (roots_from most x.1.now))))
             g
-            ∙ λ ι. record { answer = Refused x; world = w; taken = add-zero n ι }
+            ∙ λ ι. record { answer = Err z; world = w; taken = add-zero n ι }
 
-    pub row_root : {w' : World} → (outcome_in text w (take (e - a) (drop a l))).stepped.answer ≡ Accepted → w' ≡ next text w (take (e - a) (drop a l))
-        → Row text l begun e (n + 1) w'
+    pub row_root : {w' : World} → (outcome_in text w x.0.now).stepped.answer ≡ Ok tt → w' ≡ next text w x.0.now
+        → Row text l begun x.1.now (n + 1) w'
     unfolding run_by list_bytes
-    row_root {w'} g step = subst (λ (x : World). Row text l begun e (n + 1) x) (sym step) (go row.most row.enough row.whole row.same)
+    row_root {w'} g step = subst (λ (y : World). Row text l begun x.1.now (n + 1) y) (sym step) (go row.most row.enough row.whole row.same)
       where
-        go : (most : ℕ) → length l ≤ most + at → at + list_bytes (roots_from most (drop at l)) ≡ list_bytes (roots_in l)
-            → run_tested text begun l ≡ behind n (run_of text w (ending (length l) (list_bytes (roots_in l))) (roots_from most (drop at l)))
-            → Row text l begun e (n + 1) (next text w (take (e - a) (drop a l)))
+        go : (most : ℕ) → length rest ≤ most → length l + list_bytes (roots_from most rest) ≡ length rest + list_bytes (roots_in l)
+            → run_tested text begun l ≡ behind n (run_of text w (ending (length l) (list_bytes (roots_in l))) (roots_from most rest))
+            → Row text l begun x.1.now (n + 1) (next text w x.0.now)
         go zero h b q = absurd (omega (arith, here))
         go (suc most) h b q =
-            let rest = run_of text (next text w (take (e - a) (drop a l))) (ending (length l) (list_bytes (roots_in l))) (roots_from most (drop e l)) in
-            let long : length (take (e - a) (drop a l)) ≡ e - a = length-take-le (e - a) (drop a l) (omega (arith, length-drop a l, here)) in
-            let bytes : list_bytes (roots_from (suc most) (drop at l)) ≡ 2 + length (take (e - a) (drop a l)) + list_bytes (roots_from most (drop e l)) =
-            ap list_bytes (ahead_root most) in
-            let count : n + suc rest.taken ≡ n + 1 + rest.taken = omega arith in
+            let after = run_of text (next text w x.0.now) (ending (length l) (list_bytes (roots_in l))) (roots_from most x.1.now) in
+            let bytes : list_bytes (roots_from (suc most) rest) ≡ 2 + length x.0.now + list_bytes (roots_from most x.1.now) = ap list_bytes (ahead_root most) in
+            let count : n + suc after.taken ≡ n + 1 + after.taken = omega arith in
             record {
-              within = omega (arith, here);
               counted = omega (arith, here, row.counted);
               most = most;
               enough = omega (arith, here);
-              whole = omega (arith, here);
-              same = q ∙ over most ∙ ap (λ (y : Answer). behind n (run_by y w rest)) g ∙ λ ι. record { answer = rest.answer; world = rest.world; taken = count ι };
+              whole = omega (arith, here, b, bytes);
+              same = q ∙ over most ∙ ap (λ (y : Result ⊤ Refusal). behind n (run_by y w after)) g ∙ λ ι. record { answer = after.answer; world = after.world; taken = count ι };
             }
 
 -- what a run leaves is a series of the roots that it took
-run_series : (text : List ℕ) (w : World) (end : Answer) (roots : List (List ℕ))
+run_series : (text : List ℕ) (w : World) (end : Result ⊤ Refusal) (roots : List (List ℕ))
     → (run_of text w end roots).world ≡ series text w (take (run_of text w end roots).taken roots)
 unfolding run_of run_by series
 run_series text w end [] = refl
 run_series text w end (t ∷ ts) = go (outcome_in text w t).stepped.answer (run_series text (next text w t) end ts)
   where
-    go : (a : Answer) → (run_of text (next text w t) end ts).world ≡ series text (next text w t) (take (run_of text (next text w t) end ts).taken ts)
+    go : (a : Result ⊤ Refusal) → (run_of text (next text w t) end ts).world ≡ series text (next text w t) (take (run_of text (next text w t) end ts).taken ts)
         → (run_by a w (run_of text (next text w t) end ts)).world ≡ series text w (take (run_by a w (run_of text (next text w t) end ts)).taken (t ∷ ts))
-    go Accepted h = h
-    go (Refused x) h = refl
+    go (Ok tt) h = h
+    go (Err x) h = refl
 
 -- ---- text and state before the roots
 
@@ -249,10 +227,10 @@ module _ (text : List ℕ) (w : World) (roots : List (List ℕ)) where
   leaves_refuse true x j h = refl
   leaves_refuse false x j h = h
 
-  leaves_refuse_at : (f : Found) (x : ℕ → Refusal) (j : Judged Run) → Leaves text w roots (judged_run w j) → Leaves text w roots (judged_run w (refuse_at f x j))
+  leaves_refuse_at : (f : Option ℕ) (x : ℕ → Refusal) (j : Judged Run) → Leaves text w roots (judged_run w j) → Leaves text w roots (judged_run w (refuse_at f x j))
   unfolding refuse_at judged_run series
-  leaves_refuse_at (At p) x j h = refl
-  leaves_refuse_at Nothing x j h = h
+  leaves_refuse_at (Some p) x j h = refl
+  leaves_refuse_at None x j h = h
 
 pub run_leaves : (text : List ℕ) (w : World) (l : List ℕ) → Leaves text w (roots_in l) (run text w l)
 unfolding run judge_list run_tested judged_run
@@ -263,19 +241,19 @@ run_leaves text w l =
 
 -- by the code's tests
 module _ (text : List ℕ) (s : State) (calls notices l : List ℕ) where
-  pub list_long : {r : Listed} → 65535 < length text → r ≡ record { answer = Refused refusal.TooLong; state = s; taken = 0 }
+  pub list_long : {r : Listed} → 65535 < length text → r ≡ record { answer = Err refusal.TooLong; state = s; taken = 0 }
       → ran r calls notices ≡ run text (begun s calls notices) l
   unfolding run judge_list judged_run refuse
   list_long h e = rw (e, lt-ltb 65535 (length text) h)
 
-  pub list_ill : {r : Listed} (p : ℕ) → length text ≤ 65535 → first_ill text ≡ At p → r ≡ record { answer = Refused (refusal.NotUtf8 p); state = s; taken = 0 }
+  pub list_ill : {r : Listed} (p : ℕ) → length text ≤ 65535 → first_ill text ≡ Some p → r ≡ record { answer = Err (refusal.NotUtf8 p); state = s; taken = 0 }
       → ran r calls notices ≡ run text (begun s calls notices) l
   unfolding run judge_list judged_run refuse refuse_at
   list_ill p h f e = rw (e, le-ltb 65535 (length text) h, f)
 
-  module _ (short : length text ≤ 65535) (formed : first_ill text ≡ Nothing) where
+  module _ (short : length text ≤ 65535) (formed : first_ill text ≡ None) where
     pub list_forged : {r : Listed} → (not (sound text s) || overfilled s (length calls) (length notices)) ≡ true
-        → r ≡ record { answer = Refused refusal.Forged; state = s; taken = 0 }
+        → r ≡ record { answer = Err refusal.Forged; state = s; taken = 0 }
         → ran r calls notices ≡ run text (begun s calls notices) l
     unfolding run judge_list judged_run refuse refuse_at
     list_forged f e = rw (e, le-ltb 65535 (length text) short, formed, f)

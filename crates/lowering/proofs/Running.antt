@@ -4,6 +4,7 @@
 --     surely_fits          what needs no counting
 --     written              what the second run comes to
 -- Assumes nothing.
+use Rattle.std.specs.Prelude.{Err, Ok}
 use mathlib.Core.Path.{◌≡◌, refl, sym, ap, subst, ◌∙◌}
 use mathlib.Core.Bool.{true, false}
 use mathlib.Core.List.{List}
@@ -17,7 +18,6 @@ use Rattle.tape.specs.declared.refusal.Refusal.TheVariants as refusal
 use Rattle.definitions.specs.declared.options.Settings.{Settings}
 use Rattle.definitions.specs.declared.records.Import.{Import}
 use Rattle.definitions.specs.declared.state.State.{State}
-use Rattle.definitions.specs.declared.state.Answer.TheVariants as answer
 use Rattle.definitions.specs.declared.state.Stepped.{Stepped}
 use Rattle.definitions.specs.Judging.{done, refuse}
 use Rattle.definitions.specs.Tree.{Root}
@@ -70,23 +70,23 @@ module _ {text : List ℕ} {s : State} {tape : List ℕ} {call_room notice_room 
       }
 
 module _ {text : List ℕ} {s : State} {tape : List ℕ} {call_room notice_room : ℕ} {p : Pen} (c : Counted text s tape call_room notice_room p) where
-  pub no_number : p.full ≡ true → answer.Refused refusal.Bindings ≡ answer_of (judge_tape text s tape call_room notice_room)
+  pub no_number : p.full ≡ true → Err refusal.Bindings ≡ answer_of (judge_tape text s tape call_room notice_room)
   unfolding fitted refuse answer_of
   no_number h = rw (c.judges, told c.full h)
 
   module _ (free : p.full ≡ false) where
-    pub no_bound : call_room - s.calls < p.calls → answer.Refused (refusal.Space p.calls) ≡ answer_of (judge_tape text s tape call_room notice_room)
+    pub no_bound : call_room - s.calls < p.calls → Err (refusal.Space p.calls) ≡ answer_of (judge_tape text s tape call_room notice_room)
     unfolding fitted refuse answer_of
     no_bound h = rw (c.judges, told c.full free, ← c.calls, lt-ltb (call_room - s.calls) p.calls h)
 
     module _ (room : p.calls ≤ call_room - s.calls) where
       pub no_notice_room : notice_room - s.notices < p.notices
-          → answer.Refused (refusal.NoticeSpace p.notices) ≡ answer_of (judge_tape text s tape call_room notice_room)
+          → Err (refusal.NoticeSpace p.notices) ≡ answer_of (judge_tape text s tape call_room notice_room)
       unfolding fitted refuse answer_of
       no_notice_room h =
           rw (c.judges, told c.full free, ← c.calls, ← c.notices, le-ltb (call_room - s.calls) p.calls room, lt-ltb (notice_room - s.notices) p.notices h)
 
-      pub all_fits : p.notices ≤ notice_room - s.notices → answer.Accepted ≡ answer_of (judge_tape text s tape call_room notice_room)
+      pub all_fits : p.notices ≤ notice_room - s.notices → (Ok tt) ≡ answer_of (judge_tape text s tape call_room notice_room)
       unfolding fitted refuse answer_of
       all_fits h =
           rw (c.judges, told c.full free, ← c.calls, ← c.notices, le-ltb (call_room - s.calls) p.calls room, le-ltb (notice_room - s.notices) p.notices h)
@@ -96,7 +96,7 @@ module _ {text : List ℕ} {s : State} {tape : List ℕ} {call_room notice_room 
 -- there is room for what a tape can give at the most, and a number for whatever is bound
 pub surely_fits : {text : List ℕ} {s : State} {tape : List ℕ} {call_room notice_room r : ℕ} → Ready text s tape call_room notice_room
     → ((t : List ℕ) (z : Settings) (js : List Import) (o : Root) (u : ℕ) → length tape ≤ 65535 → read_root t tape ≡ done o u → length (lowered_after t z js o).calls ≤ r)
-    → r ≤ call_room - s.calls → length tape ≤ notice_room - s.notices → answer_of (judge_tape text s tape call_room notice_room) ≡ answer.Accepted
+    → r ≤ call_room - s.calls → length tape ≤ notice_room - s.notices → answer_of (judge_tape text s tape call_room notice_room) ≡ Ok tt
 unfolding fitted refuse answer_of
 surely_fits {text} {s} {tape} {call_room} {notice_room} ready most room notices =
     let good = checked_good (read_root text tape) ready.reads in
@@ -118,12 +118,12 @@ surely_fits {text} {s} {tape} {call_room} {notice_room} ready most room notices 
 abbrev pub after : State → Pen → Stepped
 after s p =
     record {
-      answer = answer.Accepted;
+      answer = Ok tt;
       state = record { settings = s.settings; records = p.store.records; count = p.store.count; calls = p.calls; notices = p.notices };
     }
 
 pub written : {text : List ℕ} {s : State} {tape cs cs' ns ns' : List ℕ} {p q : Pen} → Ready text s tape (length cs) (length ns)
-    → answer_of (judge_tape text s tape (length cs) (length ns)) ≡ answer.Accepted → length s.records ≡ 8 → length cs < 2 ^ 63 → length ns < 2 ^ 63
+    → answer_of (judge_tape text s tape (length cs) (length ns)) ≡ Ok tt → length s.records ≡ 8 → length cs < 2 ^ 63 → length ns < 2 ^ 63
     → p ≡ pen_of s s.calls s.notices → Ran text s tape cs cs' ns ns' p q → Comes (tape_outcome text s tape cs ns) (after s q) cs' ns'
 unfolding tape_outcome outcome_by lowered_after
 written {text} {s} {tape} {cs} {cs'} {ns} {ns'} {p} {q} ready accepts eight short short' start run =
@@ -142,10 +142,10 @@ written {text} {s} {tape} {cs} {cs'} {ns} {ns'} {p} {q} ready accepts eight shor
     let free : q.full ≡ false = e.fullness ∙ le-ltb 8 (length l.bound) f.0 in
     let x = call_room_enough e short (omega (arith, e.call_place, u.calls_within, f.1)) free in
     let y = notice_room_enough e short' (omega (arith, e.notice_place, u.notices_within, f.2)) in
-    let m : after s q ≡ record { answer = answer.Accepted; state = moved s l } =
+    let m : after s q ≡ record { answer = Ok tt; state = moved s l } =
     (λ ι. record {
-      answer = answer.Accepted;
+      answer = Ok tt;
       state = record { settings = s.settings; records = q.store.records; count = q.store.count; calls = x.0 ι; notices = y.0 ι };
     })
-    ∙ ap (λ (t : State). record { answer = answer.Accepted; state = t }) (held_moved s l (e.stands.store free)) in
+    ∙ ap (λ (t : State). record { answer = Ok tt; state = t }) (held_moved s l (e.stands.store free)) in
     rw (judges ∙ f.3) (record { answered = m; called = x.1; noticed = y.1 })

@@ -1,9 +1,8 @@
 -- Worked examples of lists of roots, computed from the definition.
-use Rattle.std.specs.Prelude.{ℕ, ◌≡◌, refl, List, [], ◌∷◌, ◌++◌, map, length, replicate}
+use Rattle.std.specs.Prelude.{ℕ, ◌≡◌, refl, List, [], ◌∷◌, ◌++◌, map, length, replicate, Err, Ok, Result, ⊤}
+use Rattle.tape.specs.declared.refusal.Refusal.{Refusal}
 use Rattle.text.specs.Utf8.{ill_from, first_ill}
 use Rattle.tape.specs.Refusals.{fault_number, number_of, figure_of}
-use Rattle.definitions.specs.declared.state.Answer.{Answer}
-use Rattle.definitions.specs.declared.state.Answer.TheVariants as answer
 use Rattle.definitions.specs.Judging.{refuse, refuse_at}
 use Rattle.definitions.specs.States.{sound}
 use Rattle.definitions.specs.Entries.{no_job, judge_root, outcome_by, root_outcome}
@@ -51,9 +50,9 @@ long_root = refl
 
 -- ---- up to the first root that is refused, over a state that every root is refused over (12): how many were lowered, and the refusal
 
-unfoldable pub figures : Answer → List ℕ
-figures answer.Accepted = []
-figures (answer.Refused r) = number_of r ∷ figure_of r ∷ []
+unfoldable pub figures : Result ⊤ Refusal → List ℕ
+figures (Ok tt) = []
+figures (Err r) = number_of r ∷ figure_of r ∷ []
 
 abbrev pub told_of : Run → List ℕ
 told_of r = r.taken ∷ figures r.answer

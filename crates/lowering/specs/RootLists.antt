@@ -1,14 +1,12 @@
 -- A list of roots on one tape: roots end to end, each after its length as u16, little-endian. A list cut short ends with the last whole root.
-use Rattle.std.specs.Prelude.{ℕ, zero, suc, ◌+◌, ◌-◌, ◌*◌, ◌≤◌, ◌≡◌, cond, not, ◌||◌, List, [], ◌∷◌, length, take, drop, eqb, ltb}
+use Rattle.std.specs.Prelude.{ℕ, zero, suc, ◌+◌, ◌*◌, ◌≤◌, ◌≡◌, cond, not, ◌||◌, List, [], ◌∷◌, length, take, drop, eqb, ltb, Err, None, Ok, Option, Result, Some, ⊤}
+use Rattle.std.proofs.Common.{Bor}
+use Rattle.tape.specs.declared.refusal.Refusal.{Refusal}
 use Rattle.tape.specs.declared.refusal.Fault.TheVariants as fault
 use Rattle.tape.specs.declared.refusal.Refusal.TheVariants as refusal
-use Rattle.definitions.specs.declared.state.Answer.{Answer}
-use Rattle.definitions.specs.declared.state.Answer.TheVariants.{Accepted, Refused}
 use Rattle.definitions.specs.Judging.{Judged, accepted, refused, too_long, judge_state}
 use Rattle.definitions.specs.States.{sound, overfilled}
 use Rattle.definitions.specs.Series.{World, outcome_in, next}
-use Rattle.lowering.specs.declared.series.Ahead.{Ahead}
-use Rattle.lowering.specs.declared.series.Ahead.TheVariants.{Root, End}
 use Rattle.lowering.specs.declared.series.Listed.{Listed}
 
 -- a root of n bytes, where l follows its length, and the roots behind it
@@ -30,17 +28,17 @@ roots_in l = roots_from (length l) l
 
 -- what a list comes to: an answer, what the accepted roots before it left, and how many they are
 pub record Run : Type 0 where
-  pub answer : Answer
+  pub answer : Result ⊤ Refusal
   pub world : World
   pub taken : ℕ
 
 -- by a root's own answer: it and the roots behind it, or nothing of them
-unfoldable pub run_by : Answer → World → Run → Run
-run_by Accepted w behind = record { answer = behind.answer; world = behind.world; taken = suc behind.taken }
-run_by (Refused r) w behind = record { answer = Refused r; world = w; taken = 0 }
+unfoldable pub run_by : Result ⊤ Refusal → World → Run → Run
+run_by (Ok tt) w behind = record { answer = behind.answer; world = behind.world; taken = suc behind.taken }
+run_by (Err r) w behind = record { answer = Err r; world = w; taken = 0 }
 
 -- roots in a world, where this is the answer behind the last
-unfoldable pub run_of : List ℕ → World → Answer → List (List ℕ) → Run
+unfoldable pub run_of : List ℕ → World → Result ⊤ Refusal → List (List ℕ) → Run
 run_of text w end [] = record { answer = end; world = w; taken = 0 }
 run_of text w end (t ∷ ts) = run_by (outcome_in text w t).stepped.answer w (run_of text (next text w t) end ts)
 
@@ -50,8 +48,8 @@ list_bytes [] = 0
 list_bytes (t ∷ ts) = 2 + length t + list_bytes ts
 
 -- document 02, point 11: "a list cut short gets 3 and its length after its whole roots"
-unfoldable pub ending : ℕ → ℕ → Answer
-ending size whole = cond (eqb whole size) Accepted (Refused (refusal.Tape fault.Grammar size))
+unfoldable pub ending : ℕ → ℕ → Result ⊤ Refusal
+ending size whole = cond (eqb whole size) (Ok tt) (Err (refusal.Tape fault.Grammar size))
 
 -- a list over a text and a state that are in order
 unfoldable pub run_tested : List ℕ → World → List ℕ → Run
@@ -64,7 +62,7 @@ judge_list text w l =
 
 unfoldable pub judged_run : World → Judged Run → Run
 judged_run w (accepted r) = r
-judged_run w (refused x) = record { answer = Refused x; world = w; taken = 0 }
+judged_run w (refused x) = record { answer = Err x; world = w; taken = 0 }
 
 -- a list in a world
 unfoldable pub run : List ℕ → World → List ℕ → Run
@@ -76,12 +74,16 @@ ran r calls notices = record { answer = r.answer; world = record { state = r.sta
 
 -- ---- step by step
 
+-- a root and what follows it, as the code hands them on
+abbrev pub Ahead : Type 0
+Ahead = Bor (List ℕ) × Bor (List ℕ)
+
 -- at most so many roots and one, by what is ahead
-unfoldable pub roots_by : ℕ → List ℕ → Ahead → List (List ℕ)
-roots_by most l (Root a e) = take (e - a) (drop a l) ∷ roots_from most (drop e l)
-roots_by most l End = []
+unfoldable pub roots_by : ℕ → Option Ahead → List (List ℕ)
+roots_by most (Some r) = r.0.now ∷ roots_from most r.1.now
+roots_by most None = []
 
 -- a root that is ahead stands on the list, behind its length
-abbrev pub Stands : List ℕ → ℕ → Ahead → Type 0
-Stands l at (Root a e) = (at + 2 ≡ a) × (a ≤ e) × (e ≤ length l) × (e ≤ a + 65535)
-Stands l at End = Unit {0}
+abbrev pub Stands : List ℕ → Option Ahead → Type 0
+Stands l (Some r) = (2 + length r.0.now + length r.1.now ≡ length l) × (length r.0.now ≤ 65535)
+Stands l None = Unit {0}

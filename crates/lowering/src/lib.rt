@@ -3,29 +3,36 @@
 
 pub mod series;
 
-ghost use Rattle.std.specs.Prelude.{◌≡◌, false, ◌≤◌, length};
-ghost use Rattle.definitions.specs.declared.state.Answer.TheVariants.{Accepted, Refused};
+ghost use Rattle.std.specs.Prelude.{◌≡◌, false, ◌≤◌, length, Ok};
 ghost use Rattle.definitions.specs.Entries.{root_outcome};
 ghost use Rattle.store.specs.Adding.{store_of};
-ghost use Rattle.lowering.specs.Steps.{Text, Unforged, Ready, judge_tape, tape_outcome, answer_of, Comes};
+ghost use Rattle.lowering.specs.Steps.{Text, Unforged, Ready, judge_tape, tape_outcome, answer_of, stepped, Comes};
 
-use definitions::state::{Answer, State, Stepped};
+use definitions::state::{State, Stepped};
 use jsx::jsx_impl::lower;
 use pen::pen::Pen;
-use root_check::check::{Checked, check_root};
+use root_check::check::check_root;
 use size_bound::call_size_bound;
 use store::forged::is_forged;
 use store::module_imports::Store;
 use tape::limits::MAX_LENGTH;
 use tape::refusal::Refusal;
-use text::bytes::Found;
 use text::utf8::first_ill_formed;
 
-fn refused(state: State, refusal: Refusal) -> Stepped
-    ensures { result ≡ record { answer = Refused refusal; state = state } }
+// A root's answer, with the state behind it: a refused root leaves it as it is.
+fn stepped(state: State, after: Result<State, Refusal>) -> Stepped
+    ensures { result ≡ stepped state after }
 {
-    let answer = Answer::Refused(refusal);
-    Stepped { answer, state }
+    match after {
+        Ok(next) => Stepped {
+            answer: Ok(()),
+            state: next,
+        },
+        Err(refusal) => {
+            let answer = Err(refusal);
+            Stepped { answer, state }
+        }
+    }
 }
 
 // A pen over the state's records, at these places.
@@ -46,43 +53,47 @@ fn pen_over(state: State, calls: usize, notices: usize) -> Pen
 }
 
 // Whether there is a number for each binding and room for each byte. Lowering into spare targets counts them.
-fn fit(text: &[u8], state: State, tape: &[u8], call_room: usize, notice_room: usize) -> Answer
+fn fit(
+    text: &[u8],
+    state: State,
+    tape: &[u8],
+    call_room: usize,
+    notice_room: usize,
+) -> Result<(), Refusal>
     requires { Ready text.now state tape.now call_room notice_room }
     ensures { result ≡ answer_of (judge_tape text.now state tape.now call_room notice_room) }
 {
-    let settings = state.settings;
     let mut spare = [0u8; 1];
     let mut spare_notices = [0u8; 1];
     let pen = lower(
         text,
-        settings,
+        &state.settings,
         tape,
         &mut spare,
         &mut spare_notices,
         pen_over(state, 0, 0),
     );
     if pen.full {
-        return Answer::Refused(Refusal::Bindings);
+        return Err(Refusal::Bindings);
     }
     if call_room - state.calls < pen.calls {
-        return Answer::Refused(Refusal::Space(pen.calls));
+        return Err(Refusal::Space(pen.calls));
     }
     if notice_room - state.notices < pen.notices {
-        return Answer::Refused(Refusal::NoticeSpace(pen.notices));
+        return Err(Refusal::NoticeSpace(pen.notices));
     }
-    Answer::Accepted
+    Ok(())
 }
 
-// What fits, into the targets.
-fn write(text: &[u8], state: State, tape: &[u8], calls: &mut [u8], notices: &mut [u8]) -> Stepped
+// What fits, into the targets: the state behind it.
+fn write(text: &[u8], state: State, tape: &[u8], calls: &mut [u8], notices: &mut [u8]) -> State
     requires ready { Ready text.now state tape.now (length calls.old) (length notices.old) }
-    requires notices_value { answer_of (judge_tape text.now state tape.now (length calls.old) (length notices.old)) ≡ Accepted }
-    ensures { Comes (tape_outcome text.now state tape.now calls.old notices.old) result calls.new notices.new }
+    requires notices_value { answer_of (judge_tape text.now state tape.now (length calls.old) (length notices.old)) ≡ Ok tt }
+    ensures { Comes (tape_outcome text.now state tape.now calls.old notices.old) (stepped state (Ok result)) calls.new notices.new }
 {
-    let settings = state.settings;
     let pen = lower(
         text,
-        settings,
+        &state.settings,
         tape,
         calls,
         notices,
@@ -90,15 +101,12 @@ fn write(text: &[u8], state: State, tape: &[u8], calls: &mut [u8], notices: &mut
     );
     let store = pen.store;
     let records = store.records;
-    Stepped {
-        answer: Answer::Accepted,
-        state: State {
-            settings,
-            records,
-            count: store.count as usize,
-            calls: pen.calls,
-            notices: pen.notices,
-        },
+    State {
+        records,
+        count: store.count as usize,
+        calls: pen.calls,
+        notices: pen.notices,
+        ..state
     }
 }
 
@@ -109,20 +117,18 @@ fn lower_checked(
     tape: &[u8],
     calls: &mut [u8],
     notices: &mut [u8],
-) -> Stepped
+) -> Result<State, Refusal>
     requires { Ready text.now state tape.now (length calls.old) (length notices.old) }
-    ensures { Comes (tape_outcome text.now state tape.now calls.old notices.old) result calls.new notices.new }
+    ensures { Comes (tape_outcome text.now state tape.now calls.old notices.old) (stepped state result) calls.new notices.new }
 {
     // where there is room for whatever the tape can give, nothing need be counted
     if call_size_bound(tape) <= calls.len() - state.calls {
         if tape.len() <= notices.len() - state.notices {
-            return write(text, state, tape, calls, notices);
+            return Ok(write(text, state, tape, calls, notices));
         }
     }
-    match fit(text, state, tape, calls.len(), notices.len()) {
-        Answer::Refused(refusal) => refused(state, refusal),
-        Answer::Accepted => write(text, state, tape, calls, notices),
-    }
+    fit(text, state, tape, calls.len(), notices.len())?;
+    Ok(write(text, state, tape, calls, notices))
 }
 
 // A state that is not forged.
@@ -132,29 +138,37 @@ fn lower_tape(
     tape: &[u8],
     calls: &mut [u8],
     notices: &mut [u8],
-) -> Stepped
+) -> Result<State, Refusal>
     requires { Unforged text.now state tape.now (length calls.old) (length notices.old) }
-    ensures { Comes (tape_outcome text.now state tape.now calls.old notices.old) result calls.new notices.new }
+    ensures { Comes (tape_outcome text.now state tape.now calls.old notices.old) (stepped state result) calls.new notices.new }
 {
     match check_root(text, tape) {
-        Checked::Bad(fault, place) => refused(state, Refusal::Tape(fault, place)),
-        Checked::Good => lower_checked(text, state, tape, calls, notices),
+        Ok(()) => lower_checked(text, state, tape, calls, notices),
+        Err(error) => Err(Refusal::Tape(error.fault, error.place)),
     }
 }
 
-// A text that is not too long and is UTF-8, and a tape that is not too long.
-fn lower_if_unforged(
+// Text and tape are tested, then the state.
+fn lower_judged(
     text: &[u8],
     state: State,
     tape: &[u8],
     calls: &mut [u8],
     notices: &mut [u8],
-) -> Stepped
-    requires { Text text.now tape.now }
-    ensures { Comes (root_outcome text.now state tape.now calls.old notices.old) result calls.new notices.new }
+) -> Result<State, Refusal>
+    ensures { Comes (root_outcome text.now state tape.now calls.old notices.old) (stepped state result) calls.new notices.new }
 {
+    if MAX_LENGTH < text.len() {
+        return Err(Refusal::TooLong);
+    }
+    if MAX_LENGTH < tape.len() {
+        return Err(Refusal::TooLong);
+    }
+    if let Some(place) = first_ill_formed(text) {
+        return Err(Refusal::NotUtf8(place));
+    }
     if is_forged(text, state, calls.len(), notices.len()) {
-        return refused(state, Refusal::Forged);
+        return Err(Refusal::Forged);
     }
     lower_tape(text, state, tape, calls, notices)
 }
@@ -172,14 +186,6 @@ pub fn lower_root(
     ensures calls_after { calls.new ≡ (root_outcome text.now state tape.now calls.old notices.old).calls }
     ensures notices_after { notices.new ≡ (root_outcome text.now state tape.now calls.old notices.old).notices }
 {
-    if MAX_LENGTH < text.len() {
-        return refused(state, Refusal::TooLong);
-    }
-    if MAX_LENGTH < tape.len() {
-        return refused(state, Refusal::TooLong);
-    }
-    match first_ill_formed(text) {
-        Found::At(place) => refused(state, Refusal::NotUtf8(place)),
-        Found::Nothing => lower_if_unforged(text, state, tape, calls, notices),
-    }
+    let after = lower_judged(text, state, tape, calls, notices);
+    stepped(state, after)
 }

@@ -1,56 +1,44 @@
 // A list of roots, one after the other.
-ghost use Rattle.std.specs.Prelude.{◌≡◌, List, ℕ, suc, ◌≤◌, length, take, drop};
+ghost use Rattle.std.specs.Prelude.{◌≡◌, List, ℕ, suc, ◌≤◌, length, take};
 ghost use Rattle.definitions.specs.declared.options.Settings.{Settings};
-ghost use Rattle.text.specs.declared.bytes.Found.TheVariants.{Nothing};
 ghost use Rattle.text.specs.Utf8.{first_ill};
-ghost use Rattle.definitions.specs.declared.state.Answer.TheVariants.{Refused};
 ghost use Rattle.definitions.specs.Judging.{accepted};
 ghost use Rattle.definitions.specs.Opening.{judge_opening};
 ghost use Rattle.definitions.specs.Entries.{root_outcome};
 ghost use Rattle.definitions.specs.Series.{opening, next, series};
 ghost use Rattle.definitions.specs.Claim.{Kept};
-ghost use Rattle.lowering.specs.Steps.{Going, Comes};
+ghost use Rattle.lowering.specs.Steps.{Going, stepped, Comes};
 ghost use Rattle.lowering.specs.RootLists.{roots_from, roots_in, roots_by, Stands, ending, run_tested, run, ran};
 
 use crate::{lower_root, lower_tape};
-use definitions::state::{Answer, State, Stepped};
+use definitions::state::State;
 use store::forged::is_forged;
 use tape::limits::MAX_LENGTH;
 use tape::numbers::read_u16;
 use tape::refusal::{Fault, Refusal};
-use text::bytes::Found;
 use text::utf8::first_ill_formed;
 
-// What is ahead on a list of roots: a whole root, from the one place to the other, or none.
-#[derive(Clone, Copy)]
-enum Ahead {
-    Root(usize, usize),
-    End,
-}
-
-// The root that begins, with its length, at this place of a list.
-fn next_root(roots: &[u8], at: usize) -> Ahead
-    requires { at ≤ length roots.now }
-    ensures roots_by { (most : ℕ) → roots_from (suc most) (drop at roots.now) ≡ roots_by most roots.now result }
-    ensures stands { Stands roots.now at result }
+// The root that begins a list, behind its length, and what follows it; none where the list is cut off before its end.
+fn next_root(roots: &[u8]) -> Option<(&[u8], &[u8])>
+    ensures roots_by { (most : ℕ) → roots_from (suc most) roots.now ≡ roots_by most result }
+    ensures stands { Stands roots.now result }
 {
-    if roots.len() - at < 2 {
-        return Ahead::End;
+    if roots.len() < 2 {
+        return None;
     }
-    let start = at + 2;
-    let size = read_u16(roots, at) as usize;
-    if roots.len() - start < size {
-        return Ahead::End;
+    let size = read_u16(roots, 0) as usize;
+    let behind = &roots[2..];
+    if behind.len() < size {
+        return None;
     }
-    Ahead::Root(start, start + size)
+    Some((&behind[..size], &behind[size..]))
 }
 
 // A root more, refused or not: the state after it.
 fn lower_next(text: &[u8], state: State, root: &[u8], calls: &mut [u8], notices: &mut [u8]) -> State
     ensures { record { state = result; calls = calls.new; notices = notices.new } ≡ next text.now (record { state = state; calls = calls.old; notices = notices.old }) root.now }
 {
-    let done = lower_root(text, state, root, calls, notices);
-    done.state
+    lower_root(text, state, root, calls, notices).state
 }
 
 // The roots of a list, each over the state that the last one left and the same targets; one that is refused changes nothing. Demand 3 holds of
@@ -68,18 +56,12 @@ pub fn lower_series(
     ensures kept { (job : List ℕ) (s : Settings) (target : List ℕ) → judge_opening text.now job (length target) ≡ accepted s → record { state = state; calls = calls.old; notices = notices.old } ≡ opening text.now s calls.old target → Kept text.now s calls.old target (roots_in roots.now) }
 {
     let mut last = state;
-    let mut at = 0;
-    loop {
-        match next_root(roots, at) {
-            Ahead::End => {
-                return last;
-            }
-            Ahead::Root(start, end) => {
-                last = lower_next(text, last, &roots[start..end], calls, notices);
-                at = end;
-            }
-        }
+    let mut rest = roots;
+    while let Some((root, behind)) = next_root(rest) {
+        last = lower_next(text, last, root, calls, notices);
+        rest = behind;
     }
+    last
 }
 
 // ---- up to the first root that is refused
@@ -87,7 +69,7 @@ pub fn lower_series(
 // What a list comes to: the answer of the root that ended it, or of its end; the state that the roots before that left; how many they are.
 #[derive(Clone, Copy)]
 pub struct Listed {
-    pub answer: Answer,
+    pub answer: Result<(), Refusal>,
     pub state: State,
     pub taken: usize,
 }
@@ -99,22 +81,22 @@ fn lower_tested(
     root: &[u8],
     calls: &mut [u8],
     notices: &mut [u8],
-) -> Stepped
+) -> Result<State, Refusal>
     requires root_len_bound { length root.now ≤ 65535 }
     requires going { Going text.now state (length calls.old) (length notices.old) }
-    ensures { Comes (root_outcome text.now state root.now calls.old notices.old) result calls.new notices.new }
+    ensures { Comes (root_outcome text.now state root.now calls.old notices.old) (stepped state result) calls.new notices.new }
 {
     lower_tape(text, state, root, calls, notices)
 }
 
 // The answer behind the last whole root of a list.
-fn list_end(size: usize, whole: usize) -> Answer
+fn list_end(size: usize, whole: usize) -> Result<(), Refusal>
     ensures { result ≡ ending size whole }
 {
     if whole == size {
-        return Answer::Accepted;
+        return Ok(());
     }
-    Answer::Refused(Refusal::Tape(Fault::Grammar, size))
+    Err(Refusal::Tape(Fault::Grammar, size))
 }
 
 // The roots in turn, over a text and a state that are in order: behind each root that is accepted they are again, so neither is tested any more.
@@ -129,46 +111,37 @@ fn lower_in_turn(
     ensures { ran result calls.new notices.new ≡ run_tested text.now (record { state = state; calls = calls.old; notices = notices.old }) roots.now }
 {
     let mut last = state;
-    let mut at = 0;
+    let mut rest = roots;
     let mut taken = 0;
-    loop {
-        match next_root(roots, at) {
-            Ahead::End => {
-                let answer = list_end(roots.len(), at);
+    while let Some((root, behind)) = next_root(rest) {
+        match lower_tested(text, last, root, calls, notices) {
+            Ok(next) => {
+                last = next;
+                rest = behind;
+                taken += 1;
+            }
+            Err(refusal) => {
                 return Listed {
-                    answer,
+                    answer: Err(refusal),
                     state: last,
                     taken,
                 };
             }
-            Ahead::Root(start, end) => {
-                let stepped = lower_tested(text, last, &roots[start..end], calls, notices);
-                let answer = stepped.answer;
-                last = stepped.state;
-                match answer {
-                    Answer::Refused(refusal) => {
-                        return Listed {
-                            answer: Answer::Refused(refusal),
-                            state: last,
-                            taken,
-                        };
-                    }
-                    Answer::Accepted => {
-                        at = end;
-                        taken += 1;
-                    }
-                }
-            }
         }
+    }
+    Listed {
+        answer: list_end(roots.len(), roots.len() - rest.len()),
+        state: last,
+        taken,
     }
 }
 
 // A list that is refused before its roots.
 fn list_refused(state: State, refusal: Refusal) -> Listed
-    ensures { result ≡ record { answer = Refused refusal; state = state; taken = 0 } }
+    ensures { result ≡ record { answer = Err refusal; state = state; taken = 0 } }
 {
     Listed {
-        answer: Answer::Refused(refusal),
+        answer: Err(refusal),
         state,
         taken: 0,
     }
@@ -183,7 +156,7 @@ fn lower_list_if_unforged(
     notices: &mut [u8],
 ) -> Listed
     requires text_len_bound { length text.now ≤ 65535 }
-    requires text_value { first_ill text.now ≡ Nothing }
+    requires text_value { first_ill text.now ≡ None }
     ensures { ran result calls.new notices.new ≡ run text.now (record { state = state; calls = calls.old; notices = notices.old }) roots.now }
 {
     if is_forged(text, state, calls.len(), notices.len()) {
@@ -210,8 +183,8 @@ pub fn lower_list(
     if MAX_LENGTH < text.len() {
         return list_refused(state, Refusal::TooLong);
     }
-    match first_ill_formed(text) {
-        Found::At(place) => list_refused(state, Refusal::NotUtf8(place)),
-        Found::Nothing => lower_list_if_unforged(text, state, roots, calls, notices),
+    if let Some(place) = first_ill_formed(text) {
+        return list_refused(state, Refusal::NotUtf8(place));
     }
+    lower_list_if_unforged(text, state, roots, calls, notices)
 }

@@ -3,13 +3,13 @@ ghost use Rattle.std.specs.Prelude.{◌≤◌, length};
 
 use crate::show::{say, show_answer, show_kept, show_left, show_records, show_targets};
 use crate::states::replaced;
-use definitions::state::{Answer, State};
+use definitions::state::State;
 use files::read_full;
 use lowering::lower_root;
 use settings::opening::open_job;
 use std::io;
 use std::io::{Result, Write};
-use vectors::lines::{after, before, line_end};
+use vectors::lines::{after, before, next_line};
 use vectors::values::{hex_bytes, value_of};
 
 // The bytes that a field spells: in hexadecimal, or a star and how many zero bytes. What `out` holds at first is zero.
@@ -130,12 +130,12 @@ fn run_job(
     let answer = opened.answer;
     let state = opened.state;
     match answer {
-        Answer::Refused(_) => {
+        Err(_) => {
             say(out, b" opening")?;
             show_answer(out, answer)?;
             show_left(out, notices)
         }
-        Answer::Accepted => {
+        Ok(()) => {
             if first.len() == field.len() {
                 run_opened(out, field, state, rest, notices)
             } else {
@@ -174,11 +174,10 @@ pub fn run(rt: &(impl Input + Print)) -> Result<()> {
 }
 
 fn run_lines(out: &mut impl Write, s: &[u8]) -> Result<()> {
-    let mut at = 0;
-    while at < s.len() {
-        let end = line_end(s, at);
-        run_line(out, &s[at..end])?;
-        at = end + 1;
+    let mut left = s;
+    while let Some((line, behind)) = next_line(left) {
+        run_line(out, line)?;
+        left = behind;
     }
     Ok(())
 }

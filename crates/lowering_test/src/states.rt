@@ -2,7 +2,7 @@
 use crate::show::say;
 use definitions::state::State;
 use packing::layout::STATE_SIZE;
-use packing::reading::unpack;
+use packing::reading::{no_state, unpack};
 use packing::writing::pack;
 use std::io::{Result, Write};
 use text::bytes::same;
@@ -23,21 +23,22 @@ pub fn replaced(out: &mut impl Write, state: State, field: &[u8]) -> Result<Stat
         return Ok(state);
     }
     let mut bytes = [0u8; STATE_SIZE];
-    pack(state, &mut bytes);
+    let _ = pack(state, &mut bytes);
     replace(&mut bytes, before(field, b','));
     replace(&mut bytes, after(field, b','));
-    let unpacked = unpack(&bytes);
-    if !unpacked.good {
-        say(out, b" no state's bytes")?;
+    match unpack(&bytes) {
+        Some(changed) => Ok(changed),
+        None => {
+            say(out, b" no state's bytes")?;
+            Ok(no_state())
+        }
     }
-    let changed = unpacked.state;
-    Ok(changed)
 }
 
 pub fn is_same(a: State, b: State) -> bool {
     let mut one = [0u8; STATE_SIZE];
     let mut other = [0u8; STATE_SIZE];
-    pack(a, &mut one);
-    pack(b, &mut other);
+    let _ = pack(a, &mut one);
+    let _ = pack(b, &mut other);
     same(&one, &other)
 }

@@ -1,10 +1,12 @@
 -- Steps that the proofs of the code share.
---     told                    what a call answered, and what a branch says of it
+--     weighed                 the byte of a truth value
 --     records_next            a walk through the records of an array, at element i
 --     packed_length           how many bytes a state has
 --     packed_laid             what a target with room for them holds after
 -- Assumes nothing.
-use mathlib.Core.Path.{◌≡◌, refl, sym, ◌∙◌}
+use mathlib.Core.Path.{◌≡◌, refl, ◌∙◌}
+use mathlib.Core.Bool.{Bool, true, false}
+use mir.Val.{bool_byte}
 use mathlib.Core.List.{List, [], ◌∷◌, ◌++◌, append-nil, append_assoc}
 use Prim.Native.Nat.{ℕ, ◌+◌, ◌*◌, ◌≤◌, ◌<◌}
 use native.Mathlib.Omega.{arith}
@@ -19,10 +21,12 @@ use Rattle.definitions.specs.declared.state.State.{State}
 use Rattle.definitions.specs.Entries.{laid}
 use Rattle.tape.specs.Targets.{Wrote}
 use Rattle.tape.proofs.Targets.{sets_room}
-use Rattle.packing.specs.Packed.{u64_bytes, record_bytes, records_bytes, optional_bytes, options_bytes, form_bytes, settings_bytes, packed, packed_target}
+use Rattle.packing.specs.Packed.{u64_bytes, weight, record_bytes, records_bytes, optional_bytes, options_bytes, form_bytes, settings_bytes, packed, packed_target}
 
-pub told : {A : Type 0} {r x b : A} → r ≡ x → r ≡ b → x ≡ b
-told p q = sym p ∙ q
+pub weighed : (b : Bool) {r : ℕ} → r ≡ bool_byte b → r ≡ weight b
+unfolding weight
+weighed true e = e
+weighed false e = e
 
 -- what an element of the array is past its end
 abbrev pub nothing : Record

@@ -2,9 +2,11 @@
 --     unpacked_packed      a state comes back from its bytes
 --     packed_unpacked      bytes that are taken for a state's are that state's bytes
 -- Assumes nothing.
+use Rattle.std.specs.Prelude.{None, Option, Some}
+use Rattle.text.specs.declared.spans.Span.{Span}
 use mathlib.Core.Path.{◌≡◌, refl, sym, ap, subst, ◌∙◌}
 use mathlib.Core.Logic.{⊎_elim, ◌⊎◌, inl, inr}
-use mathlib.Core.Bool.{Bool, true, false, cond, ◌&&◌, false≢true}
+use mathlib.Core.Bool.{Bool, true, false, ◌&&◌, false≢true}
 use mathlib.Core.List.{List, [], ◌∷◌, ◌++◌}
 use Prim.Native.Nat.{ℕ, zero, suc, ◌+◌, ◌*◌, ◌/◌, ◌%◌, ◌^◌, ◌≤◌, ◌<◌}
 use native.Mathlib.Omega.{arith}
@@ -13,8 +15,6 @@ use lib.Dec.{eqb, ltb}
 use borrow.Author.Tests.{eqb-true, ne_eqb, ltb-true, ltb-false}
 use Rattle.tape.specs.Numbers.{u32_at, u32_bytes, span_bytes}
 use Rattle.tape.proofs.ReadBack.{u32_small, u32_back, span_back}
-use Rattle.definitions.specs.declared.options.Optional.{Optional}
-use Rattle.definitions.specs.declared.options.Optional.TheVariants.{Absent, Present}
 use Rattle.definitions.specs.declared.options.Flags.{Flags}
 use Rattle.definitions.specs.declared.options.Options.{Options}
 use Rattle.definitions.specs.declared.options.Mode.{Mode}
@@ -29,7 +29,7 @@ use Rattle.definitions.specs.declared.records.Record.{Record}
 use Rattle.definitions.specs.declared.state.State.{State}
 use Rattle.definitions.specs.Options.{flags_of}
 use Rattle.definitions.specs.States.{root_number}
-use Rattle.packing.specs.Packed.{u64_bytes, weight, flags_byte, presence, span_of, optional_bytes, mode_number, form_bytes, import_number, source_of, name_of, record_bytes, records_bytes, options_bytes, settings_bytes, packed, u64_at, optional_of, optional_good, optional_at, good_optional, mode_of, root_of, form_at, import_of, import_good, record_at, good_record, options_at, settings_at, state_at, good_options, good_settings, good_records, good, found, none, unpacked}
+use Rattle.packing.specs.Packed.{u64_bytes, weight, flags_byte, presence, span_of, optional_bytes, mode_number, form_bytes, import_number, source_of, name_of, record_bytes, records_bytes, options_bytes, settings_bytes, packed, u64_at, optional_of, optional_good, optional_at, good_optional, mode_of, root_of, form_at, import_of, import_good, record_at, good_record, options_at, settings_at, records_at, state_at, good_options, good_settings, good_records, good, if_good, unpacked}
 use Rattle.packing.specs.Inverse.{Back, Only}
 use Rattle.packing.proofs.Bytes.{nothing, packed_length}
 
@@ -88,15 +88,15 @@ flags_back f =
       «module» = weight_back f.«module» (flags_byte f / 2 ^ 7 % 2) (omega (arith, a, b, c, d, e, g, h, i)) ι;
     }
 
-optional_back : (o : Optional) → optional_at (optional_bytes o) 0 ≡ o
+optional_back : (o : Option Span) → optional_at (optional_bytes o) 0 ≡ o
 unfolding optional_of optional_bytes presence span_of
-optional_back Absent = refl
-optional_back (Present s) = ap Present (span_back s [])
+optional_back None = refl
+optional_back (Some s) = ap Some (span_back s [])
 
-optional_good_always : (o : Optional) → good_optional (optional_bytes o) 0 ≡ true
+optional_good_always : (o : Option Span) → good_optional (optional_bytes o) 0 ≡ true
 unfolding optional_good optional_bytes presence span_of
-optional_good_always Absent = refl
-optional_good_always (Present s) = refl
+optional_good_always None = refl
+optional_good_always (Some s) = refl
 
 mode_back : (m : Mode) → mode_of (mode_number m) ≡ m
 unfolding mode_of mode_number
@@ -189,7 +189,7 @@ module _ (s : Settings) (a b c d e f g h : Record) (count calls notices : ℕ) w
       }
 
   state_back : state_at (packed spelled) ≡ spelled
-  unfolding packed state_at settings_bytes options_bytes optional_bytes form_bytes records_bytes record_bytes
+  unfolding packed state_at records_at settings_bytes options_bytes optional_bytes form_bytes records_bytes record_bytes
   state_back =
       λ ι. record {
         settings = settings_back ι;
@@ -222,7 +222,7 @@ module _ (s : Settings) (a b c d e f g h : Record) (count calls notices : ℕ) w
       && import_good_always g.import ι
       && import_good_always h.import ι)
 
-  spelled_back : unpacked (packed spelled) ≡ found spelled
+  spelled_back : unpacked (packed spelled) ≡ Some spelled
   unfolding unpacked
   spelled_back = rw (packed_length spelled refl, state_good, state_back)
 
@@ -233,12 +233,12 @@ unpacked_packed s e =
     let all : part nothing rs 0 8 ≡ rs = ap (λ (n : ℕ). part nothing rs 0 n) (sym e) ∙ part_all nothing rs in
     let same : record { settings = s.settings; records = part nothing rs 0 8; count = s.count; calls = s.calls; notices = s.notices } ≡ s =
     λ ι. record { settings = s.settings; records = all ι; count = s.count; calls = s.calls; notices = s.notices } in
-    subst (λ (t : State). unpacked (packed t) ≡ found t) same
+    subst (λ (t : State). unpacked (packed t) ≡ Some t) same
     (back s.settings rs s.count s.calls s.notices)
   where
     back : (v : Settings) (rs : List Record) (count calls notices : ℕ)
         → unpacked (packed (record { settings = v; records = part nothing rs 0 8; count = count; calls = calls; notices = notices }))
-        ≡ found (record { settings = v; records = part nothing rs 0 8; count = count; calls = calls; notices = notices })
+        ≡ Some (record { settings = v; records = part nothing rs 0 8; count = count; calls = calls; notices = notices })
     back v rs count calls notices =
         spelled_back v (get_or rs 0 nothing) (get_or rs 1 nothing) (get_or rs 2 nothing) (get_or rs 3 nothing) (get_or rs 4 nothing) (get_or rs 5 nothing)
         (get_or rs 6 nothing) (get_or rs 7 nothing) count calls notices
@@ -369,7 +369,7 @@ module _ (t : List ℕ) (bytes : (k : ℕ) → get_or t k 0 < 256) where
   record_part i e = record_fore (get_or t i 0) (get_or t (i + 1) 0) (get_or t (i + 2) 0) (get_or t (i + 3) 0) e
 
   state_part : good t ≡ true → packed (state_at t) ≡ part 0 t 0 102
-  unfolding part packed state_at settings_at options_at settings_bytes options_bytes form_bytes records_bytes good good_options good_settings good_records
+  unfolding part packed state_at records_at settings_at options_at settings_bytes options_bytes form_bytes records_bytes good good_options good_settings good_records
   state_part e =
       let halves = both (good_options t && good_settings t) (good_records t) e in
       let front = both (good_options t) (good_settings t) halves.0 in
@@ -411,11 +411,11 @@ module _ (t : List ℕ) (bytes : (k : ℕ) → get_or t k 0 < 256) where
       ++ u64_part 86 ι
       ++ u64_part 94 ι
 
-  only : (s : State) → unpacked t ≡ found s → packed s ≡ t
+  only : (s : State) → unpacked t ≡ Some s → packed s ≡ t
   unfolding unpacked
   only s e = go (eqb (length t) 102 && good t) refl e
     where
-      go : (b : Bool) → eqb (length t) 102 && good t ≡ b → cond b (found (state_at t)) none ≡ found s → packed s ≡ t
+      go : (b : Bool) → eqb (length t) 102 && good t ≡ b → if_good b (state_at t) ≡ Some s → packed s ≡ t
       go true h e =
           let z = both (eqb (length t) 102) (good t) h in
           let q : state_at t ≡ s = cc in

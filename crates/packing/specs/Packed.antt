@@ -5,11 +5,11 @@
 --     28, 37    the forms of both pragmas, nine bytes each: the root (0 to 3) and how many parts follow it
 --     46        eight records of four bytes: what it is (0 named, 1 required, 2 the file name), source, name, binding
 --     78        three numbers of eight bytes: how many records are in use, and the fills of the call and notice targets
-use Rattle.std.specs.Prelude.{ℕ, ◌+◌, ◌*◌, ◌/◌, ◌%◌, Bool, true, false, cond, ◌&&◌, List, [], ◌∷◌, ◌++◌, length, get_or, replicate, eqb, ltb}
+use Rattle.std.specs.Prelude.{ℕ, ◌+◌, ◌*◌, ◌/◌, ◌%◌, Bool, true, false, cond, ◌&&◌, List, [], ◌∷◌, ◌++◌, length, get_or, replicate, eqb, ltb, None, Option, Some, Err, Ok, Result}
 use Rattle.text.specs.declared.spans.Span.{Span}
+use Rattle.tape.specs.declared.refusal.Refusal.{Refusal}
+use Rattle.tape.specs.declared.refusal.Refusal.TheVariants.{Space}
 use Rattle.tape.specs.Numbers.{u32_at, span_at, u32_bytes, span_bytes}
-use Rattle.definitions.specs.declared.options.Optional.{Optional}
-use Rattle.definitions.specs.declared.options.Optional.TheVariants.{Absent, Present}
 use Rattle.definitions.specs.declared.options.Flags.{Flags}
 use Rattle.definitions.specs.declared.options.Options.{Options}
 use Rattle.definitions.specs.declared.options.Mode.{Mode}
@@ -25,9 +25,6 @@ use Rattle.definitions.specs.declared.state.State.{State}
 use Rattle.definitions.specs.Options.{flags_of}
 use Rattle.definitions.specs.States.{root_number}
 use Rattle.definitions.specs.Entries.{laid, no_record}
-use Rattle.packing.specs.declared.writing.Packed.{Packed}
-use Rattle.packing.specs.declared.writing.Packed.TheVariants.{Written, Short}
-use Rattle.packing.specs.declared.reading.Unpacked.{Unpacked}
 
 -- ---- a state's bytes
 
@@ -51,15 +48,15 @@ flags_byte f =
     + weight f.«module» * 128
 
 -- an option: whether it is present, and its span; zeros where it is absent
-unfoldable pub presence : Optional → ℕ
-presence Absent = 0
-presence (Present s) = 1
+unfoldable pub presence : Option Span → ℕ
+presence None = 0
+presence (Some s) = 1
 
-unfoldable pub span_of : Optional → Span
-span_of Absent = record { start = 0; len = 0 }
-span_of (Present s) = s
+unfoldable pub span_of : Option Span → Span
+span_of None = record { start = 0; len = 0 }
+span_of (Some s) = s
 
-unfoldable pub optional_bytes : Optional → List ℕ
+unfoldable pub optional_bytes : Option Span → List ℕ
 optional_bytes o = presence o ∷ span_bytes (span_of o)
 
 unfoldable pub mode_number : Mode → ℕ
@@ -117,8 +114,8 @@ packed s =
     ++ u64_bytes s.notices
 
 -- the bytes at the front of a target, where it has room for them
-unfoldable pub packed_answer : ℕ → Packed
-packed_answer room = cond (ltb room 102) (Short 102) (Written 102)
+unfoldable pub packed_answer : ℕ → Result ℕ Refusal
+packed_answer room = cond (ltb room 102) (Err (Space 102)) (Ok 102)
 
 unfoldable pub packed_target : State → List ℕ → List ℕ
 packed_target s target = cond (ltb (length target) 102) target (laid 0 (packed s) target)
@@ -128,13 +125,13 @@ packed_target s target = cond (ltb (length target) 102) target (laid 0 (packed s
 abbrev pub u64_at : List ℕ → ℕ → ℕ
 u64_at t i = u32_at t i + u32_at t (i + 4) * 4294967296
 
-unfoldable pub optional_of : ℕ → Span → Optional
-optional_of n s = cond (eqb n 0) Absent (Present s)
+unfoldable pub optional_of : ℕ → Span → Option Span
+optional_of n s = cond (eqb n 0) None (Some s)
 
 unfoldable pub optional_good : ℕ → Span → Bool
 optional_good n s = cond (eqb n 0) (eqb s.start 0 && eqb s.len 0) (eqb n 1)
 
-abbrev pub optional_at : List ℕ → ℕ → Optional
+abbrev pub optional_at : List ℕ → ℕ → Option Span
 optional_at t i = optional_of (get_or t i 0) (span_at t (i + 1))
 
 abbrev pub good_optional : List ℕ → ℕ → Bool
@@ -182,20 +179,23 @@ settings_at t =
       pragma_frag = form_at t 37;
     }
 
+unfoldable pub records_at : List ℕ → List Record
+records_at t =
+    record_at t 46
+    ∷ record_at t 50
+    ∷ record_at t 54
+    ∷ record_at t 58
+    ∷ record_at t 62
+    ∷ record_at t 66
+    ∷ record_at t 70
+    ∷ record_at t 74
+    ∷ []
+
 unfoldable pub state_at : List ℕ → State
 state_at t =
     record {
       settings = settings_at t;
-      records =
-          record_at t 46
-          ∷ record_at t 50
-          ∷ record_at t 54
-          ∷ record_at t 58
-          ∷ record_at t 62
-          ∷ record_at t 66
-          ∷ record_at t 70
-          ∷ record_at t 74
-          ∷ [];
+      records = records_at t;
       count = u64_at t 78;
       calls = u64_at t 86;
       notices = u64_at t 94;
@@ -222,12 +222,12 @@ good_records t =
 unfoldable pub good : List ℕ → Bool
 good t = good_options t && good_settings t && good_records t
 
-pub data Found : Type 0 where
-  found : State → Found
-  none : Found
+-- what was read of bytes, if they are good
+abbrev pub if_good : {A : Type 0} → Bool → A → Option A
+if_good b x = cond b (Some x) None
 
-unfoldable pub unpacked : List ℕ → Found
-unpacked t = cond (eqb (length t) 102 && good t) (found (state_at t)) none
+unfoldable pub unpacked : List ℕ → Option State
+unpacked t = if_good (eqb (length t) 102 && good t) (state_at t)
 
 -- what is given back in place of a state: it has over 8 records, so that every entry refuses it as forged
 abbrev pub no_form : Form
@@ -241,11 +241,11 @@ no_state =
             options =
                 record {
                   flags = flags_of 0;
-                  pragma = Absent;
-                  pragma_frag = Absent;
-                  import_source = Absent;
-                  ts_pragma = Absent;
-                  ts_pragma_frag = Absent;
+                  pragma = None;
+                  pragma_frag = None;
+                  import_source = None;
+                  ts_pragma = None;
+                  ts_pragma_frag = None;
                 };
             pure = false;
             mode = Script;
@@ -257,7 +257,3 @@ no_state =
       calls = 0;
       notices = 0;
     }
-
-unfoldable pub unpacked_answer : Found → Unpacked
-unpacked_answer (found s) = record { good = true; state = s }
-unpacked_answer none = record { good = false; state = no_state }

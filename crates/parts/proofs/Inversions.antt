@@ -1,6 +1,7 @@
 -- What a reading that succeeded is made of: by the command at the front, the tree's shape, the readings of its parts and what they took.
 -- `turns`: the parts are read with one turn less.
 -- Assumes nothing.
+use Rattle.std.specs.Prelude.{Ok, Err}
 use mathlib.Core.Path.{◌≡◌, refl, sym, ap, ◌∙◌}
 use mathlib.Core.Bool.{Bool, true, false, cond, ◌||◌}
 use mathlib.Core.List.{List}
@@ -16,6 +17,7 @@ use Rattle.text.specs.Spans.{part_of, bounds_of}
 use Rattle.references.specs.References.{has_reference}
 use Rattle.tape.specs.declared.refusal.Fault.{Fault}
 use Rattle.tape.specs.declared.refusal.Fault.TheVariants as fault
+use Rattle.commands.specs.declared.error.CommandError.{CommandError}
 use Rattle.commands.specs.declared.root.Place.{Place}
 use Rattle.commands.specs.declared.root.AttributeCommand.TheVariants as attributes
 use Rattle.commands.specs.declared.root.ValueCommand.TheVariants as values
@@ -163,41 +165,36 @@ module _ (text t : List ℕ) (d : ℕ) where
   abbrev pub properties_read : ℕ → List ℕ → Parsed (List Property)
   properties_read f l = properties_at f text l
 
-  pub attributes_end : (f : ℕ) {a : Attributes} {u : ℕ} → attribute_command t ≡ attributes.End → attributes_at f text d t ≡ done a u → (a ≡ no_attributes) × (u ≡ 1)
+  pub attributes_end : (f : ℕ) {a : Attributes} {u : ℕ} → attribute_command t ≡ Ok attributes.End → attributes_at f text d t ≡ done a u → (a ≡ no_attributes) × (u ≡ 1)
   unfolding attributes_at attributes_by
   attributes_end zero c e = never e
   attributes_end (suc f) {a} {u} c e = let h : done no_attributes 1 ≡ done a u = rw c at e in (cc, cc)
 
-  pub attributes_wrong : (f : ℕ) {a : Attributes} {u : ℕ} → attribute_command t ≡ attributes.Wrong → attributes_at f text d t ≡ done a u → ⊥
+  pub attributes_error : (f : ℕ) {a : Attributes} {u : ℕ} {x : CommandError} → attribute_command t ≡ Err x → attributes_at f text d t ≡ done a u → ⊥
   unfolding attributes_at attributes_by
-  attributes_wrong zero c e = never e
-  attributes_wrong (suc f) c e = never (rw c at e)
+  attributes_error zero c e = never e
+  attributes_error (suc f) c e = never (rw c at e)
 
-  pub attributes_cut : (f : ℕ) {a : Attributes} {u : ℕ} → attribute_command t ≡ attributes.Cut → attributes_at f text d t ≡ done a u → ⊥
-  unfolding attributes_at attributes_by
-  attributes_cut zero c e = never e
-  attributes_cut (suc f) c e = never (rw c at e)
-
-  pub attributes_plain : (f : ℕ) (s : Span) {a : Attributes} {u : ℕ} → attribute_command t ≡ attributes.Plain s → attributes_at f text d t ≡ done a u
+  pub attributes_plain : (f : ℕ) (s : Span) {a : Attributes} {u : ℕ} → attribute_command t ≡ Ok (attributes.Plain s) → attributes_at f text d t ≡ done a u
       → Within value_read attributes_read t f a u 5 (attribute s)
   unfolding attributes_at attributes_by
   attributes_plain zero s c e = never e
   attributes_plain (suc f) s c e = parted attributes_read t f value_read 5 (attribute s) (named_done (bounds_of text s) _ (rw c at e))
 
-  pub attributes_namespaced : (f : ℕ) (s r : Span) {a : Attributes} {u : ℕ} → attribute_command t ≡ attributes.Namespaced s r → attributes_at f text d t ≡ done a u
+  pub attributes_namespaced : (f : ℕ) (s r : Span) {a : Attributes} {u : ℕ} → attribute_command t ≡ Ok (attributes.Namespaced s r) → attributes_at f text d t ≡ done a u
       → Within value_read attributes_read t f a u 9 (namespaced_attribute s r)
   unfolding attributes_at attributes_by
   attributes_namespaced zero s r c e = never e
   attributes_namespaced (suc f) s r c e =
       parted attributes_read t f value_read 9 (namespaced_attribute s r) (named_done (worse (bounds_of text s) (bounds_of text r)) _ (rw c at e))
 
-  pub attributes_spread : (f x : ℕ) {a : Attributes} {u : ℕ} → attribute_command t ≡ attributes.Spread x → attributes_at f text d t ≡ done a u
+  pub attributes_spread : (f x : ℕ) {a : Attributes} {u : ℕ} → attribute_command t ≡ Ok (attributes.Spread x) → attributes_at f text d t ≡ done a u
       → Behind attributes_read t f a u 3 (spread x)
   unfolding attributes_at attributes_by
   attributes_spread zero x c e = never e
   attributes_spread (suc f) x c e = mapped attributes_read t f 3 (spread x) (rw c at e)
 
-  pub attributes_literal : (f x : ℕ) {a : Attributes} {u : ℕ} → attribute_command t ≡ attributes.Literal x → attributes_at f text d t ≡ done a u
+  pub attributes_literal : (f x : ℕ) {a : Attributes} {u : ℕ} → attribute_command t ≡ Ok (attributes.Literal x) → attributes_at f text d t ≡ done a u
       → Within properties_read attributes_read t f a u 3 (literal x)
   unfolding attributes_at attributes_by
   attributes_literal zero x c e = never e
@@ -222,37 +219,32 @@ module _ (text t : List ℕ) (d : ℕ) where
   abbrev pub fragment_read : Place → ℕ → List ℕ → Parsed Node
   fragment_read p f l = fragment_at f text d p l
 
-  pub value_absent : (f : ℕ) {v : Value} {u : ℕ} → value_command t ≡ values.Absent → value_at f text d t ≡ done v u → (v ≡ absent) × (u ≡ 1)
+  pub value_absent : (f : ℕ) {v : Value} {u : ℕ} → value_command t ≡ Ok values.Absent → value_at f text d t ≡ done v u → (v ≡ absent) × (u ≡ 1)
   unfolding value_at value_by
   value_absent zero c e = never e
   value_absent (suc f) {v} {u} c e = let h : done absent 1 ≡ done v u = rw c at e in (cc, cc)
 
-  pub value_empty : (f : ℕ) {v : Value} {u : ℕ} → value_command t ≡ values.Empty → value_at f text d t ≡ done v u → (v ≡ empty) × (u ≡ 1)
+  pub value_empty : (f : ℕ) {v : Value} {u : ℕ} → value_command t ≡ Ok values.Empty → value_at f text d t ≡ done v u → (v ≡ empty) × (u ≡ 1)
   unfolding value_at value_by
   value_empty zero c e = never e
   value_empty (suc f) {v} {u} c e = let h : done empty 1 ≡ done v u = rw c at e in (cc, cc)
 
-  pub value_expression : (f x : ℕ) {v : Value} {u : ℕ} → value_command t ≡ values.Expression x → value_at f text d t ≡ done v u → (v ≡ expression x) × (u ≡ 3)
+  pub value_expression : (f x : ℕ) {v : Value} {u : ℕ} → value_command t ≡ Ok (values.Expression x) → value_at f text d t ≡ done v u → (v ≡ expression x) × (u ≡ 3)
   unfolding value_at value_by
   value_expression zero x c e = never e
   value_expression (suc f) x {v} {u} c e = let h : done (expression x) 3 ≡ done v u = rw c at e in (cc, cc)
 
-  pub value_text : (f : ℕ) (s : Span) {v : Value} {u : ℕ} → value_command t ≡ values.Text s → value_at f text d t ≡ done v u → (v ≡ string s) × (u ≡ 5)
+  pub value_text : (f : ℕ) (s : Span) {v : Value} {u : ℕ} → value_command t ≡ Ok (values.Text s) → value_at f text d t ≡ done v u → (v ≡ string s) × (u ≡ 5)
   unfolding value_at value_by
   value_text zero s c e = never e
   value_text (suc f) s {v} {u} c e = let h : done (string s) 5 ≡ done v u = (lettered_done text s (done (string s) 5) (rw c at e)).0 in (cc, cc)
 
-  pub value_wrong : (f : ℕ) {v : Value} {u : ℕ} → value_command t ≡ values.Wrong → value_at f text d t ≡ done v u → ⊥
+  pub value_error : (f : ℕ) {v : Value} {u : ℕ} {x : CommandError} → value_command t ≡ Err x → value_at f text d t ≡ done v u → ⊥
   unfolding value_at value_by
-  value_wrong zero c e = never e
-  value_wrong (suc f) c e = never (rw c at e)
+  value_error zero c e = never e
+  value_error (suc f) c e = never (rw c at e)
 
-  pub value_cut : (f : ℕ) {v : Value} {u : ℕ} → value_command t ≡ values.Cut → value_at f text d t ≡ done v u → ⊥
-  unfolding value_at value_by
-  value_cut zero c e = never e
-  value_cut (suc f) c e = never (rw c at e)
-
-  pub value_element : (f : ℕ) (p : Place) {v : Value} {u : ℕ} → value_command t ≡ values.Element p → value_at f text d t ≡ done v u
+  pub value_element : (f : ℕ) (p : Place) {v : Value} {u : ℕ} → value_command t ≡ Ok (values.Element p) → value_at f text d t ≡ done v u
       → (n : Node) × (v ≡ node_value n) × Opening (element_read p) t f p n u
   unfolding value_at value_by
   value_element zero p c e = never e
@@ -261,7 +253,7 @@ module _ (text t : List ℕ) (d : ℕ) where
       let o = opened_done d p (element_at f text d p (drop 9 t)) m.1 in
       (m.0, m.2, record { fuel = f; turns = refl; took = o.0; reads = o.1; used = o.2; line = o.3; column = o.4 })
 
-  pub value_fragment : (f : ℕ) (p : Place) {v : Value} {u : ℕ} → value_command t ≡ values.Fragment p → value_at f text d t ≡ done v u
+  pub value_fragment : (f : ℕ) (p : Place) {v : Value} {u : ℕ} → value_command t ≡ Ok (values.Fragment p) → value_at f text d t ≡ done v u
       → (n : Node) × (v ≡ node_value n) × Opening (fragment_read p) t f p n u
   unfolding value_at value_by
   value_fragment zero p c e = never e

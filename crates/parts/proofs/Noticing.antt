@@ -65,7 +65,3 @@ pub text_called_at : (ls : List Span) {cs cs' : List ℕ} {p : Pen} {at n : ℕ}
     → Called (lower_text ls) cs cs' p (record { calls = n; notices = p.notices; store = p.store; full = p.full })
 text_called_at ls {cs} {cs'} {p} {at} {n} e w a js ns s =
     text_called ls (subst (λ (q : ℕ). Wrote cs cs' q n (text_bytes ls)) (e s.calls_small) w) a js ns s
-
-pub kept_few : (b : Bool) → cond b 1 0 ≤ 1
-kept_few true = omega arith
-kept_few false = omega arith

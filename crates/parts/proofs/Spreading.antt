@@ -1,5 +1,6 @@
 -- A classic call's lone spread, and whether it has a property at all.
 -- Assumes nothing.
+use Rattle.std.specs.Prelude.{Option, None, Some, Result, Ok, Err}
 use mathlib.Core.Path.{◌≡◌, refl, sym, ap, subst, ◌∙◌}
 use mathlib.Core.Bool.{Bool, true, false, cond, not, ◌||◌, ◌&&◌}
 use mathlib.Core.List.{List, [], ◌∷◌, ◌++◌}
@@ -8,55 +9,52 @@ use native.Mathlib.Omega.{arith}
 use lib.ListN.{length, take, drop, length-drop}
 use Rattle.text.specs.declared.spans.Span.{Span}
 use Rattle.text.proofs.Lists.{tail_part}
+use Rattle.commands.specs.declared.error.CommandError.{CommandError}
 use Rattle.commands.specs.declared.root.Place.{Place}
 use Rattle.commands.specs.declared.root.AttributeCommand.{AttributeCommand}
 use Rattle.commands.specs.declared.root.AttributeCommand.TheVariants as attributes
 use Rattle.commands.specs.Root.{attribute_command}
-use Rattle.definitions.specs.declared.options.Settings.{Settings}
+use Rattle.definitions.specs.declared.call_tape.Bare.TheVariants as bare
+use Rattle.definitions.specs.declared.call_tape.WithExpression.TheVariants as with_expression
 use Rattle.definitions.specs.declared.records.Import.TheVariants.{FileName}
 use Rattle.definitions.specs.Calls as call
 use Rattle.definitions.specs.Judging.{done}
 use Rattle.definitions.specs.Tree.{Property, Attributes, no_attributes, attribute, namespaced_attribute, spread, literal}
 use Rattle.definitions.specs.Reading.{properties_at, attributes_at}
 use Rattle.definitions.specs.Lowering.{Context, Output, emit, put, put_over, has_proto, plugins_off, is_last, lone_spread_or, self_output, source_output}
-use Rattle.parts.specs.declared.jsx_impl.Lone.{Lone}
-use Rattle.parts.specs.declared.jsx_impl.Lone.TheVariants as lone
+use Rattle.emit.specs.declared.used.Used.{Used}
 use Rattle.parts.specs.Promises.{some_output, SoleAt, Alone, LoneWithin}
-use Rattle.parts.proofs.Inversions.{attributes_end, attributes_wrong, attributes_cut, attributes_plain, attributes_namespaced, attributes_spread, attributes_literal}
+use Rattle.parts.proofs.Inversions.{attributes_end, attributes_error, attributes_plain, attributes_namespaced, attributes_spread, attributes_literal}
 
 -- ---- whether the attributes end n bytes behind the front
 
 module _ (t q : List ℕ) (x n : ℕ) (here : q ≡ drop n t) where
-  at : {r : AttributeCommand} → attribute_command q ≡ r → attribute_command (drop n t) ≡ r
+  at : {r : Result AttributeCommand CommandError} → attribute_command q ≡ r → attribute_command (drop n t) ≡ r
   at k = ap attribute_command (sym here) ∙ k
 
-  pub alone_end : attribute_command q ≡ attributes.End → n < length t → Alone t x n (lone.Sole x (n + 1))
+  pub alone_end : attribute_command q ≡ Ok attributes.End → n < length t → Alone t x n (Some (record { value = x; used = n + 1 }))
   unfolding Alone
   alone_end k h = (refl, refl, h, λ f d text a u e. attributes_end text (drop n t) d f (at k) e)
 
-  pub alone_plain : (s : Span) → attribute_command q ≡ attributes.Plain s → Alone t x n lone.Object
+  pub alone_plain : (s : Span) → attribute_command q ≡ Ok (attributes.Plain s) → Alone t x n None
   unfolding Alone is_last
   alone_plain s k f d text a u e = rw (attributes_plain text (drop n t) d f s (at k) e).is refl
 
-  pub alone_namespaced : (s r : Span) → attribute_command q ≡ attributes.Namespaced s r → Alone t x n lone.Object
+  pub alone_namespaced : (s r : Span) → attribute_command q ≡ Ok (attributes.Namespaced s r) → Alone t x n None
   unfolding Alone is_last
   alone_namespaced s r k f d text a u e = rw (attributes_namespaced text (drop n t) d f s r (at k) e).is refl
 
-  pub alone_spread : (y : ℕ) → attribute_command q ≡ attributes.Spread y → Alone t x n lone.Object
+  pub alone_spread : (y : ℕ) → attribute_command q ≡ Ok (attributes.Spread y) → Alone t x n None
   unfolding Alone is_last
   alone_spread y k f d text a u e = rw (attributes_spread text (drop n t) d f y (at k) e).is refl
 
-  pub alone_literal : (y : ℕ) → attribute_command q ≡ attributes.Literal y → Alone t x n lone.Object
+  pub alone_literal : (y : ℕ) → attribute_command q ≡ Ok (attributes.Literal y) → Alone t x n None
   unfolding Alone is_last
   alone_literal y k f d text a u e = rw (attributes_literal text (drop n t) d f y (at k) e).is refl
 
-  pub alone_wrong : attribute_command q ≡ attributes.Wrong → Alone t x n lone.Object
+  pub alone_error : {y : CommandError} → attribute_command q ≡ Err y → Alone t x n None
   unfolding Alone
-  alone_wrong k f d text a u e = absurd (attributes_wrong text (drop n t) d f (at k) e)
-
-  pub alone_cut : attribute_command q ≡ attributes.Cut → Alone t x n lone.Object
-  unfolding Alone
-  alone_cut k f d text a u e = absurd (attributes_cut text (drop n t) d f (at k) e)
+  alone_error k f d text a u e = absurd (attributes_error text (drop n t) d f (at k) e)
 
 -- ---- a lone spread
 
@@ -67,12 +65,12 @@ no_spread c (attribute s v a) h object = refl
 no_spread c (namespaced_attribute s r v a) h object = refl
 no_spread c (spread e a) h object = go (is_last a)
   where
-    go : (b : Bool) → cond (b && plugins_off c) (put_over call.sole_spread e) object ≡ object
+    go : (b : Bool) → cond (b && plugins_off c) (put_over with_expression.SoleSpread e) object ≡ object
     go true = rw h refl
     go false = refl
 no_spread c (literal e ps a) h object = go (is_last a)
   where
-    go : (b : Bool) → cond (b && plugins_off c && not (has_proto c ps)) (put_over call.sole_spread e) object ≡ object
+    go : (b : Bool) → cond (b && plugins_off c && not (has_proto c ps)) (put_over with_expression.SoleSpread e) object ≡ object
     go true = rw h refl
     go false = refl
 
@@ -94,51 +92,48 @@ protoed true false h x y i = refl
 protoed false p h x y i = refl
 
 -- with a plugin on there is none
-pub lone_on : (c : Context) (a : Attributes) (u : ℕ) → plugins_off c ≡ false → SoleAt c a u lone.Object
+pub lone_on : (c : Context) (a : Attributes) (u : ℕ) → plugins_off c ≡ false → SoleAt c a u None
 unfolding SoleAt
 lone_on c a u h = no_spread c a h
 
 module _ (c : Context) (text t : List ℕ) (f d : ℕ) (a : Attributes) (u : ℕ) (e : attributes_at f text d t ≡ done a u) where
-  pub lone_plain : (s : Span) → attribute_command t ≡ attributes.Plain s → SoleAt c a u lone.Object
+  pub lone_plain : (s : Span) → attribute_command t ≡ Ok (attributes.Plain s) → SoleAt c a u None
   unfolding SoleAt lone_spread_or
   lone_plain s k = λ object. ap (λ (b : Attributes). lone_spread_or c b object) (attributes_plain text t d f s k e).is
 
-  pub lone_namespaced : (s r : Span) → attribute_command t ≡ attributes.Namespaced s r → SoleAt c a u lone.Object
+  pub lone_namespaced : (s r : Span) → attribute_command t ≡ Ok (attributes.Namespaced s r) → SoleAt c a u None
   unfolding SoleAt lone_spread_or
   lone_namespaced s r k = λ object. ap (λ (b : Attributes). lone_spread_or c b object) (attributes_namespaced text t d f s r k e).is
 
-  pub lone_end : attribute_command t ≡ attributes.End → SoleAt c a u lone.Object
+  pub lone_end : attribute_command t ≡ Ok attributes.End → SoleAt c a u None
   unfolding SoleAt lone_spread_or
   lone_end k = λ object. ap (λ (b : Attributes). lone_spread_or c b object) (attributes_end text t d f k e).0
 
-  pub lone_wrong : attribute_command t ≡ attributes.Wrong → SoleAt c a u lone.Object
-  lone_wrong k = absurd (attributes_wrong text t d f k e)
+  pub lone_error : {x : CommandError} → attribute_command t ≡ Err x → SoleAt c a u None
+  lone_error k = absurd (attributes_error text t d f k e)
 
-  pub lone_cut : attribute_command t ≡ attributes.Cut → SoleAt c a u lone.Object
-  lone_cut k = absurd (attributes_cut text t d f k e)
-
-  pub lone_spread : (x : ℕ) (r : Lone) → attribute_command t ≡ attributes.Spread x → plugins_off c ≡ true → Alone t x 3 r → SoleAt c a u r
+  pub lone_spread : (x : ℕ) (r : Option (Used ℕ)) → attribute_command t ≡ Ok (attributes.Spread x) → plugins_off c ≡ true → Alone t x 3 r → SoleAt c a u r
   unfolding SoleAt lone_spread_or Alone is_last
-  lone_spread x (lone.Sole y m) k off A =
+  lone_spread x (Some s) k off A =
       let W = attributes_spread text t d f x k e in
       let B = A.3 W.fuel d text W.rest W.size W.reads in (
         omega (arith, W.used, A.1, B.1),
         λ object.
             ap (λ (b : Attributes). lone_spread_or c b object) W.is
-            ∙ ap (λ (b : Attributes). cond (is_last b && plugins_off c) (put_over call.sole_spread x) object) B.0
-            ∙ taken (plugins_off c) (put_over call.sole_spread x) object off
-            ∙ ap (λ (q : ℕ). put_over call.sole_spread q) (sym A.0),
+            ∙ ap (λ (b : Attributes). cond (is_last b && plugins_off c) (put_over with_expression.SoleSpread x) object) B.0
+            ∙ taken (plugins_off c) (put_over with_expression.SoleSpread x) object off
+            ∙ ap (λ (q : ℕ). put_over with_expression.SoleSpread q) (sym A.0),
       )
-  lone_spread x lone.Object k off A = λ object.
+  lone_spread x None k off A = λ object.
       let W = attributes_spread text t d f x k e in
       ap (λ (b : Attributes). lone_spread_or c b object) W.is
-      ∙ refused (is_last W.rest) (plugins_off c) (put_over call.sole_spread x) object (A W.fuel d text W.rest W.size W.reads)
+      ∙ refused (is_last W.rest) (plugins_off c) (put_over with_expression.SoleSpread x) object (A W.fuel d text W.rest W.size W.reads)
 
-  pub lone_literal : (x : ℕ) (r : Lone) (took : ℕ) (proto : Bool) → attribute_command t ≡ attributes.Literal x → plugins_off c ≡ true
+  pub lone_literal : (x : ℕ) (r : Option (Used ℕ)) (took : ℕ) (proto : Bool) → attribute_command t ≡ Ok (attributes.Literal x) → plugins_off c ≡ true
       → ((h : ℕ) (ps : List Property) (w : ℕ) → length (drop 3 t) < h → properties_at h text (drop 3 t) ≡ done ps w → (proto ≡ has_proto c ps) × (took ≡ w))
       → length t < f → 3 ≤ length t → proto ≡ false → Alone t x (3 + took) r → SoleAt c a u r
   unfolding SoleAt lone_spread_or Alone is_last
-  lone_literal x (lone.Sole y m) took proto k off P enough three hn A =
+  lone_literal x (Some s) took proto k off P enough three hn A =
       let W = attributes_literal text t d f x k e in
       let Q = P W.fuel W.part W.took (omega (arith, W.turns, length-drop 3 t)) W.part_reads in
       let B = A.3 W.fuel d text W.rest W.size (ap (λ (q : ℕ). attributes_at W.fuel text d (drop (3 + q) t)) Q.1 ∙ W.reads) in
@@ -146,26 +141,26 @@ module _ (c : Context) (text t : List ℕ) (f d : ℕ) (a : Attributes) (u : ℕ
         omega (arith, W.used, A.1, B.1, Q.1),
         λ object.
             ap (λ (b : Attributes). lone_spread_or c b object) W.is
-            ∙ ap (λ (b : Attributes). cond (is_last b && plugins_off c && not (has_proto c W.part)) (put_over call.sole_spread x) object) B.0
-            ∙ taken₂ (plugins_off c) (has_proto c W.part) (put_over call.sole_spread x) object off z
-            ∙ ap (λ (q : ℕ). put_over call.sole_spread q) (sym A.0),
+            ∙ ap (λ (b : Attributes). cond (is_last b && plugins_off c && not (has_proto c W.part)) (put_over with_expression.SoleSpread x) object) B.0
+            ∙ taken₂ (plugins_off c) (has_proto c W.part) (put_over with_expression.SoleSpread x) object off z
+            ∙ ap (λ (q : ℕ). put_over with_expression.SoleSpread q) (sym A.0),
       )
-  lone_literal x lone.Object took proto k off P enough three hn A = λ object.
+  lone_literal x None took proto k off P enough three hn A = λ object.
       let W = attributes_literal text t d f x k e in
       let Q = P W.fuel W.part W.took (omega (arith, W.turns, length-drop 3 t)) W.part_reads in
       ap (λ (b : Attributes). lone_spread_or c b object) W.is
-      ∙ refused₂ (is_last W.rest) (plugins_off c) (has_proto c W.part) (put_over call.sole_spread x) object
+      ∙ refused₂ (is_last W.rest) (plugins_off c) (has_proto c W.part) (put_over with_expression.SoleSpread x) object
       (A W.fuel d text W.rest W.size (ap (λ (q : ℕ). attributes_at W.fuel text d (drop (3 + q) t)) Q.1 ∙ W.reads))
 
-  pub lone_proto : (x took : ℕ) (proto : Bool) → attribute_command t ≡ attributes.Literal x
+  pub lone_proto : (x took : ℕ) (proto : Bool) → attribute_command t ≡ Ok (attributes.Literal x)
       → ((h : ℕ) (ps : List Property) (w : ℕ) → length (drop 3 t) < h → properties_at h text (drop 3 t) ≡ done ps w → (proto ≡ has_proto c ps) × (took ≡ w))
-      → length t < f → 3 ≤ length t → proto ≡ true → SoleAt c a u lone.Object
+      → length t < f → 3 ≤ length t → proto ≡ true → SoleAt c a u None
   unfolding SoleAt lone_spread_or
   lone_proto x took proto k P enough three hy = λ object.
       let W = attributes_literal text t d f x k e in
       let Q = P W.fuel W.part W.took (omega (arith, W.turns, length-drop 3 t)) W.part_reads in
       let z : has_proto c W.part ≡ true = sym Q.0 ∙ hy in
-      ap (λ (b : Attributes). lone_spread_or c b object) W.is ∙ protoed (is_last W.rest) (plugins_off c) (has_proto c W.part) (put_over call.sole_spread x) object z
+      ap (λ (b : Attributes). lone_spread_or c b object) W.is ∙ protoed (is_last W.rest) (plugins_off c) (has_proto c W.part) (put_over with_expression.SoleSpread x) object z
 
 -- ---- whether there is a property
 
@@ -178,7 +173,7 @@ some_self : (c : Context) → some_output (self_output c) ≡ (c.settings.option
 unfolding some_output self_output
 some_self c = go (c.settings.options.flags.self_plugin && c.self_allowed)
   where
-    go : (b : Bool) → some_output (cond b (put call.self) []) ≡ b
+    go : (b : Bool) → some_output (cond b (put bare.SelfProperty) []) ≡ b
     go true = refl
     go false = refl
 
@@ -228,36 +223,24 @@ module _ (c : Context) (p : Place) (os : List Output) where
 
 -- ---- what the code tests
 
-abbrev flags_off : Settings → Bool
-flags_off s = not (s.options.flags.self_plugin || s.options.flags.source_plugin)
+module _ (c : Context) where
+  pub on_self : c.settings.options.flags.self_plugin ≡ true → plugins_off c ≡ false
+  on_self h = rw h refl
 
-module _ (c : Context) (s : Settings) (same : c.settings ≡ s) where
-  off_as : {b : Bool} → flags_off s ≡ b → plugins_off c ≡ b
-  off_as e = ap (λ (x : Settings). flags_off x) same ∙ e
-
-  pub on_self : s.options.flags.self_plugin ≡ true → plugins_off c ≡ false
-  on_self h = off_as (go s.options.flags.self_plugin s.options.flags.source_plugin h)
-    where
-      go : (x y : Bool) → x ≡ true → not (x || y) ≡ false
-      go x y h = rw h refl
-
-  pub on_source : s.options.flags.source_plugin ≡ true → plugins_off c ≡ false
-  on_source h = off_as (go s.options.flags.self_plugin s.options.flags.source_plugin h)
+  pub on_source : c.settings.options.flags.source_plugin ≡ true → plugins_off c ≡ false
+  on_source h = go c.settings.options.flags.self_plugin c.settings.options.flags.source_plugin h
     where
       go : (x y : Bool) → y ≡ true → not (x || y) ≡ false
       go true y h = refl
       go false y h = rw h refl
 
-  pub off_both : s.options.flags.self_plugin ≡ false → s.options.flags.source_plugin ≡ false → plugins_off c ≡ true
-  off_both h i = off_as (go s.options.flags.self_plugin s.options.flags.source_plugin h i)
-    where
-      go : (x y : Bool) → x ≡ false → y ≡ false → not (x || y) ≡ true
-      go x y h i = rw (h, i) refl
+  pub off_both : c.settings.options.flags.self_plugin ≡ false → c.settings.options.flags.source_plugin ≡ false → plugins_off c ≡ true
+  off_both h i = rw (h, i) refl
 
-pub alone_within : (t : List ℕ) (x n : ℕ) (r : Lone) → Alone t x n r → LoneWithin (length t) r
+pub alone_within : (t : List ℕ) (x n : ℕ) (r : Option (Used ℕ)) → Alone t x n r → LoneWithin (length t) r
 unfolding Alone
-alone_within t x n (lone.Sole e m) A = omega (arith, A.1, A.2)
-alone_within t x n lone.Object A = tt
+alone_within t x n (Some s) A = omega (arith, A.1, A.2)
+alone_within t x n None A = tt
 
 -- what is told of the properties behind n bytes
 pub proto_behind : (t : List ℕ) (n : ℕ) (text : List ℕ) (c : Context) {found : Bool} {took : ℕ}

@@ -3,7 +3,8 @@
 --     called_bound     a command that names a binding, with what `add_import` gave for it
 --     noticed_one      a notice
 -- Assumes nothing.
-use Rattle.std.proofs.Common.{◌≡◌, ℕ, Bool, true, false, ◌||◌, ltb, List, [], ◌∷◌, length, refl, ◌∙◌, append-nil, arith}
+use Rattle.std.proofs.Common.{◌≡◌, ℕ, Bool, true, false, ◌||◌, ltb, List, [], ◌∷◌, length, refl, ap, ◌∙◌, append-nil, arith}
+use Rattle.std.specs.Prelude.{Option, is_none, unwrap_or}
 use Rattle.tape.specs.Targets.{Wrote}
 use Rattle.tape.proofs.Targets.{wrote_small}
 use Rattle.definitions.specs.declared.records.Import.{Import}
@@ -11,8 +12,7 @@ use Rattle.definitions.specs.Calls.{Command, bytes_of, call_bytes, Notice, notic
 use Rattle.definitions.specs.Store.{bound, bound_by, bound_after, number_in, numbered, numbered_all}
 use Rattle.definitions.specs.Lowering.{emit, notify, commands_of, notices_of}
 use Rattle.definitions.proofs.Counting.{either_false}
-use Rattle.store.specs.declared.module_imports.Added.{Added}
-use Rattle.store.specs.Adding.{added, Adds}
+use Rattle.store.specs.Adding.{Added, added, Adds}
 use Rattle.store.proofs.Adding.{held_adds}
 use Rattle.pen.specs.declared.pen.Pen.{Pen}
 use Rattle.pen.specs.Emitting.{calls_from, notices_from, bound_from, Called, Noticed}
@@ -54,8 +54,8 @@ module _ {c : Command Import} (i : Import) {cs cs' : List ℕ} {p : Pen} {n : �
   -- its bytes have the number, or any other byte, in one place
   pub called_bound : (bytes : ℕ → List ℕ) → ((js : List Import) → bound_by js c ≡ bound js i)
       → ((js : List Import) → bytes_of (numbered js c) ≡ bytes (number_in js i)) → ((k m : ℕ) → length (bytes k) ≡ length (bytes m))
-      → r ≡ added p.store i → Wrote cs cs' p.calls n (bytes r.number)
-      → Called (emit c ∷ []) cs cs' p (record { calls = n; notices = p.notices; store = r.store; full = p.full || r.full })
+      → r ≡ added p.store i → Wrote cs cs' p.calls n (bytes (unwrap_or r.number 0))
+      → Called (emit c ∷ []) cs cs' p (record { calls = n; notices = p.notices; store = r.store; full = p.full || is_none r.number })
   unfolding notices_of notice_bytes
   called_bound bytes binds written size q w a js ns s =
       let e : bound_from js (emit c ∷ []) ≡ bound js i = bound_one js c ∙ binds js in
@@ -63,14 +63,15 @@ module _ {c : Command Import} (i : Import) {cs cs' : List ℕ} {p : Pen} {n : �
       record {
         fullness = rw e (go p.full refl);
         stands = rw e (record {
-          store = λ free. let h = either_false p.full r.full free in (adds h.0).holds h.1;
+          store = λ free. let h = either_false p.full (is_none r.number) free in (adds h.0).holds h.1;
           calls_small = wrote_small w;
           notices_small = s.notices_small;
         });
-        call_place = rw f (omega (arith, w.next, size r.number (number_in js i)));
+        call_place = rw f (omega (arith, w.next, size (unwrap_or r.number 0) (number_in js i)));
         calls = λ free.
-            let h = either_false p.full r.full free in
-            rw (f, ← (adds h.0).number h.1) w.holds;
+            let h = either_false p.full (is_none r.number) free in
+            let k : unwrap_or r.number 0 ≡ number_in js i = ap (λ (o : Option ℕ). unwrap_or o 0) ((adds h.0).number h.1) in
+            rw (f, ← k) w.holds;
         notice_place = omega (arith, s.notices_small);
         notices = refl;
       }
@@ -78,7 +79,7 @@ module _ {c : Command Import} (i : Import) {cs cs' : List ℕ} {p : Pen} {n : �
       adds : p.full ≡ false → Adds a js i r
       adds free = rw q (held_adds i (s.store free))
 
-      go : (b : Bool) → p.full ≡ b → (b || r.full) ≡ (b || ltb 8 (length (bound js i)))
+      go : (b : Bool) → p.full ≡ b → (b || is_none r.number) ≡ (b || ltb 8 (length (bound js i)))
       go true free = refl
       go false free = (adds free).fullness
 

@@ -17,7 +17,8 @@ use Rattle.definitions.specs.declared.records.Import.{Import}
 use Rattle.definitions.specs.declared.records.Record.{Record}
 use Rattle.definitions.specs.Lowering.{Output, put, commands_of, notices_of}
 use Rattle.definitions.specs.Store.{bound_by, bound_after, numbered, numbered_all}
-use Rattle.definitions.specs.Calls.{Bare, bytes_of, call_bytes, notice_bytes}
+use Rattle.definitions.specs.declared.call_tape.Bare.{Bare}
+use Rattle.definitions.specs.Calls.{bytes_of, call_bytes, notice_bytes}
 use Rattle.definitions.specs.Entries.{laid}
 use Rattle.definitions.proofs.Counting.{either_false}
 use Rattle.pen.specs.declared.pen.Pen.{Pen}

@@ -5,6 +5,7 @@ ghost use Rattle.definitions.specs.Lowering.{notify};
 ghost use Rattle.pen.specs.Emitting.{Noticed};
 
 use crate::pen::Pen;
+use definitions::record_tape;
 use tape::target;
 use text::spans::Span;
 
@@ -12,19 +13,21 @@ use text::spans::Span;
 pub fn valueless_key(notices: &mut [u8], pen: Pen, span: Span) -> Pen
     ensures { Noticed (notify (valueless_key span) ∷ []) notices.old notices.new pen result }
 {
-    let at = target::put(notices, pen.notices, 0xc0);
-    let mut next = pen;
-    next.notices = target::put_span(notices, at, span);
-    next
+    let at = target::put(notices, pen.notices, record_tape::VALUELESS_KEY);
+    Pen {
+        notices: target::put_span(notices, at, span),
+        ..pen
+    }
 }
 
 // A tag with a namespace, under `throw_if_namespace`.
 pub fn namespace_does_not_support(notices: &mut [u8], pen: Pen, namespace: Span, name: Span) -> Pen
     ensures { Noticed (notify (namespaced_tag namespace name) ∷ []) notices.old notices.new pen result }
 {
-    let at = target::put(notices, pen.notices, 0xc1);
+    let at = target::put(notices, pen.notices, record_tape::NAMESPACED_TAG);
     let behind = target::put_span(notices, at, namespace);
-    let mut next = pen;
-    next.notices = target::put_span(notices, behind, name);
-    next
+    Pen {
+        notices: target::put_span(notices, behind, name),
+        ..pen
+    }
 }

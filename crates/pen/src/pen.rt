@@ -1,14 +1,15 @@
 // The pen: where writing goes on in both targets, what is bound, and whether a binding found no number.
 ghost use Rattle.std.specs.Prelude.{◌≡◌, ◌+◌, ◌<◌, [], ◌∷◌};
 ghost use Rattle.definitions.specs.declared.records.Import.TheVariants.{FileName};
-ghost use Rattle.definitions.specs.Calls.{Bare, WithByte, WithExpression, WithSpan, source, bare_code, byte_code, expression_code, span_code};
+ghost use Rattle.definitions.specs.Calls.{source};
 ghost use Rattle.definitions.specs.Lowering.{emit, put, put_byte, put_over, put_span, put_binding};
 ghost use Rattle.pen.specs.Emitting.{Called};
 
 use commands::root::Place;
+use definitions::call_tape;
+use definitions::call_tape::{Bare, Coded, WithByte, WithExpression, WithSpan};
 use definitions::records::Import;
-use std::num::wrapping_add_u32;
-use store::module_imports::{Store, add_import};
+use store::module_imports::Store;
 use tape::target;
 use text::spans::Span;
 
@@ -22,56 +23,59 @@ pub struct Pen {
 }
 
 // A command with no operand.
-pub fn put_bare(calls: &mut [u8], pen: Pen, code: u8) -> Pen
-    ensures { (c : Bare) → bare_code c ≡ code → Called (put c) calls.old calls.new pen result }
+pub fn put_bare(calls: &mut [u8], pen: Pen, command: Bare) -> Pen
+    ensures { Called (put command) calls.old calls.new pen result }
 {
-    let mut next = pen;
-    next.calls = target::put(calls, pen.calls, code);
-    next
+    Pen {
+        calls: target::put(calls, pen.calls, command.code()),
+        ..pen
+    }
 }
 
 // A command with a byte.
-pub fn put_byte(calls: &mut [u8], pen: Pen, code: u8, n: u8) -> Pen
-    ensures { (c : WithByte) → byte_code c ≡ code → Called (put_byte c n) calls.old calls.new pen result }
+pub fn put_byte(calls: &mut [u8], pen: Pen, command: WithByte, n: u8) -> Pen
+    ensures { Called (put_byte command n) calls.old calls.new pen result }
 {
-    let mut next = pen;
-    next.calls = target::put_two(calls, pen.calls, code, n);
-    next
+    Pen {
+        calls: target::put_two(calls, pen.calls, command.code(), n),
+        ..pen
+    }
 }
 
 // A command with an expression of the host's.
-pub fn put_over(calls: &mut [u8], pen: Pen, code: u8, e: u16) -> Pen
-    ensures { (c : WithExpression) → expression_code c ≡ code → Called (put_over c e) calls.old calls.new pen result }
+pub fn put_over(calls: &mut [u8], pen: Pen, command: WithExpression, e: u16) -> Pen
+    ensures { Called (put_over command e) calls.old calls.new pen result }
 {
-    let at = target::put(calls, pen.calls, code);
-    let mut next = pen;
-    next.calls = target::put_u16(calls, at, e);
-    next
+    let at = target::put(calls, pen.calls, command.code());
+    Pen {
+        calls: target::put_u16(calls, at, e),
+        ..pen
+    }
 }
 
 // A command with a span.
-pub fn put_spanned(calls: &mut [u8], pen: Pen, code: u8, span: Span) -> Pen
-    ensures { (c : WithSpan) → span_code c ≡ code → Called (put_span c span) calls.old calls.new pen result }
+pub fn put_spanned(calls: &mut [u8], pen: Pen, command: WithSpan, span: Span) -> Pen
+    ensures { Called (put_span command span) calls.old calls.new pen result }
 {
-    let at = target::put(calls, pen.calls, code);
-    let mut next = pen;
-    next.calls = target::put_span(calls, at, span);
-    next
+    let at = target::put(calls, pen.calls, command.code());
+    Pen {
+        calls: target::put_span(calls, at, span),
+        ..pen
+    }
 }
 
 // A binding. Where there is no number left, any byte stands in its place and counting goes on.
 pub fn put_binding(calls: &mut [u8], pen: Pen, import: Import) -> Pen
     ensures { Called (put_binding import) calls.old calls.new pen result }
 {
-    let store = pen.store;
-    let added = add_import(store, import);
-    let at = target::put_two(calls, pen.calls, 0x96, added.number);
-    let bound = added.store;
+    let mut store = pen.store;
+    let number = store.add_import(import);
+    let end = target::put_two(calls, pen.calls, call_tape::BINDING, number.unwrap_or(0));
     Pen {
-        calls: at,
-        notices: pen.notices,
-        store: bound,
-        full: pen.full | added.full,
+        store,
+        full: pen.full | number.is_none(),
+        calls: end,
+        ..pen
     }
 }
 
@@ -80,18 +84,17 @@ pub fn put_binding(calls: &mut [u8], pen: Pen, import: Import) -> Pen
 pub fn put_source(calls: &mut [u8], pen: Pen, place: Place) -> Pen
     ensures { place.line < 4294967295 → place.column < 4294967295 → Called (emit (source FileName (record { line = place.line + 1; column = place.column + 1 })) ∷ []) calls.old calls.new pen result }
 {
-    let line = wrapping_add_u32(place.line, 1);
-    let column = wrapping_add_u32(place.column, 1);
-    let store = pen.store;
-    let added = add_import(store, Import::FileName);
-    let at = target::put_two(calls, pen.calls, 0xa1, added.number);
+    let line = place.line.wrapping_add(1);
+    let column = place.column.wrapping_add(1);
+    let mut store = pen.store;
+    let number = store.add_import(Import::FileName);
+    let at = target::put_two(calls, pen.calls, call_tape::SOURCE, number.unwrap_or(0));
     let behind = target::put_u32(calls, at, line);
     let end = target::put_u32(calls, behind, column);
-    let bound = added.store;
     Pen {
+        store,
+        full: pen.full | number.is_none(),
         calls: end,
-        notices: pen.notices,
-        store: bound,
-        full: pen.full | added.full,
+        ..pen
     }
 }

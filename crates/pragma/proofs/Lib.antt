@@ -1,2 +1,2 @@
 pub mod Splitting
-pub mod Names
+pub mod Places

@@ -1,183 +1,228 @@
 // What a pragma is: `Pragma` of jsx_impl.rs, its root and the number of parts behind it; or the first part that fails.
 #![tactic(auto)]
 
-ghost use Rattle.std.specs.Prelude.{◌≡◌, ◌+◌, ◌≤◌, length, drop};
-ghost use Rattle.definitions.specs.Pragmas.{is_identifier_start, is_identifier_part, is_identifier_name, is_one_of, is_reserved_word, tail_from, meta_behind, pragma_of, pragma_in, form_by};
+ghost use Rattle.std.specs.Prelude.{◌≡◌, ◌+◌, ◌^◌, ◌<◌, length, bytes_eq};
+ghost use Rattle.std.specs.List.{list_all, list_any};
+ghost use Rattle.std.specs.Iterator.{YieldsFirstRef, item_count};
+ghost use Rattle.definitions.specs.Pragmas.{is_identifier_start, is_identifier_part, is_identifier_name, is_reserved_word, tail_from, meta_behind, pragma_of, pragma_in, form_by};
 ghost use Rattle.definitions.specs.Opening.{pragma_under, form_under, over_ascii_in, if_classic};
 ghost use Rattle.pragma.specs.Parts.{first_length, parts_behind};
 
-use definitions::options::{Form, Mode, Optional, PragmaRead, PragmaRoot};
-use text::bytes::{Found, find_byte, find_over_ascii, same};
-use text::spans::part;
+use definitions::options::{Form, InvalidPart, Mode, PragmaRoot};
+use text::bytes::{find_byte, find_over_ascii};
+use text::spans::{Span, part};
 
+#[tactic(auto, unfolding(definitions::specs::Pragmas::is_identifier_start))]
 fn is_identifier_start(b: u8) -> bool
     ensures { result ≡ is_identifier_start b }
 {
-    ((b'A' <= b) & (b <= b'Z')) | ((b'a' <= b) & (b <= b'z')) | (b == b'$') | (b == b'_')
+    matches!(b, b'A'..=b'Z' | b'a'..=b'z' | b'$' | b'_')
 }
 
+#[tactic(auto, unfolding(definitions::specs::Pragmas::is_identifier_part))]
 fn is_identifier_part(b: u8) -> bool
     ensures { result ≡ is_identifier_part b }
 {
-    is_identifier_start(b) | ((b'0' <= b) & (b <= b'9'))
+    is_identifier_start(b) | b.is_ascii_digit()
 }
 
+fn are_identifier_parts(s: &[u8]) -> bool
+    ensures { result ≡ list_all is_identifier_part s.now }
+{
+    s.iter().all(|b| is_identifier_part(*b))
+}
+
+#[tactic(auto, unfolding(definitions::specs::Pragmas::is_identifier_name))]
 fn is_identifier_name(w: &[u8]) -> bool
     ensures { result ≡ is_identifier_name w.now }
 {
-    if w.len() == 0 {
+    let Some((first, rest)) = w.split_first() else {
         return false;
-    }
-    if !is_identifier_start(w[0]) {
-        return false;
-    }
-    let mut i = 1;
-    while i < w.len() {
-        if !is_identifier_part(w[i]) {
-            return false;
-        }
-        i += 1;
-    }
-    true
+    };
+    is_identifier_start(*first) && are_identifier_parts(rest)
 }
 
 // How many bytes stand before the first dot.
 fn first_length(s: &[u8]) -> usize
     ensures { result ≡ first_length s.now }
 {
-    let Found::At(n) = find_byte(s, b'.') else {
-        return s.len();
-    };
-    n
+    find_byte(s, b'.').unwrap_or(s.len())
 }
 
-// Whether `w` is one of the words of a list, each behind a dot.
-fn is_one_of(w: &[u8], words: &[u8]) -> bool
-    ensures { result ≡ is_one_of w.now (parts_behind words.now) }
+const RESERVED_WORDS: [&[u8]; 38] = [
+    b"await",
+    b"break",
+    b"case",
+    b"catch",
+    b"class",
+    b"const",
+    b"continue",
+    b"debugger",
+    b"default",
+    b"delete",
+    b"do",
+    b"else",
+    b"enum",
+    b"export",
+    b"extends",
+    b"false",
+    b"finally",
+    b"for",
+    b"function",
+    b"if",
+    b"import",
+    b"in",
+    b"instanceof",
+    b"new",
+    b"null",
+    b"return",
+    b"super",
+    b"switch",
+    b"this",
+    b"throw",
+    b"true",
+    b"try",
+    b"typeof",
+    b"var",
+    b"void",
+    b"while",
+    b"with",
+    b"yield",
+];
+
+// Whether `w` is one of these words.
+fn is_one_of(w: &[u8], words: &[&[u8]]) -> bool
+    ensures { result ≡ list_any (λ word. bytes_eq w.now word.now) words.now }
 {
-    let mut i = 0;
-    while i < words.len() {
-        let start = i + 1;
-        let end = start + first_length(&words[start..]);
-        if same(w, &words[start..end]) {
-            return true;
-        }
-        i = end;
-    }
-    false
+    words.iter().any(|word| w == *word)
 }
 
+#[tactic(auto, unfolding(definitions::specs::Pragmas::is_reserved_word))]
 fn is_reserved_keyword(w: &[u8]) -> bool
     ensures { result ≡ is_reserved_word w.now }
 {
-    is_one_of(
-        w,
-        b".await.break.case.catch.class.const.continue.debugger.default.delete.do.else.enum.export.extends.false.finally.for.function.if.import.in.instanceof.new.null.return.super.switch.this.throw.true.try.typeof.var.void.while.with.yield",
-    )
+    is_one_of(w, &RESERVED_WORDS)
 }
 
-// The parts behind place `at`, where a dot or the pragma's end stands: the form with this root if all of them are identifier names, else the first that is none.
-fn read_tail(root: PragmaRoot, pragma: &[u8], at: usize) -> PragmaRead
-    requires { at ≤ length pragma.now }
-    ensures { result ≡ tail_from root 0 (at + 1) (parts_behind (drop at pragma.now)) }
+// The parts that stand one behind the other, each behind a dot.
+#[derive(Drop)]
+struct Parts<'a> {
+    left: &'a [u8],
+}
+
+impl<'a> Iterator for Parts<'a> {
+    type Item = &'a [u8];
+
+    ghost next_gives = { YieldsFirstRef (λ s. parts_behind s.left.now) };
+
+    ghost remaining = { item_count (λ s. parts_behind s.left.now) };
+
+    #[tactic(auto, using(crate::proofs::Splitting::first_inside, crate::proofs::Splitting::behind_first, crate::proofs::Splitting::behind_none))]
+    fn next(&mut self) -> Option<&'a [u8]> {
+        let (_, behind) = self.left.split_first()?;
+        let (first, left) = behind.split_at(first_length(behind));
+        self.left = left;
+        Some(first)
+    }
+}
+
+// The parts of a pragma's tail, the first of which begins at `at`: the form with this root if all of them are identifier names, else the first that is none.
+#[tactic(auto, using(crate::proofs::Splitting::behind_length), unfolding(definitions::specs::Pragmas::tail_from, definitions::proofs::OpeningNotices::parts_length))]
+fn read_tail(root: PragmaRoot, parts: Parts, at: usize) -> Result<Form, InvalidPart>
+    requires { at + length parts.left.now < 2 ^ 64 }
+    ensures { result ≡ tail_from root 0 at (parts_behind parts.entry.left.now) }
 {
-    let mut i = at;
-    let mut n = 0;
-    while i < pragma.len() {
-        let start = i + 1;
-        let end = start + first_length(&pragma[start..]);
-        if !is_identifier_name(&pragma[start..end]) {
-            return PragmaRead::Invalid(start, end - start);
+    let mut place = at;
+    let mut tail = 0;
+    for part in parts {
+        if !is_identifier_name(part) {
+            return Err(InvalidPart {
+                place,
+                len: part.len(),
+            });
         }
-        n += 1;
-        i = end;
+        tail += 1;
+        place += part.len() + 1;
     }
-    let form = Form {
-        root: root,
-        tail: n,
-    };
-    PragmaRead::Valid(form)
+    Ok(Form { root, tail })
 }
 
-// What stands behind the root `import`, which ends at place `at`.
-fn read_meta(pragma: &[u8], at: usize) -> PragmaRead
-    requires { at ≤ length pragma.now }
-    ensures { result ≡ meta_behind at (parts_behind (drop at pragma.now)) }
+// What stands behind the root `import`, which has `len` bytes.
+#[tactic(auto, using(crate::proofs::Splitting::behind_length), unfolding(definitions::specs::Pragmas::meta_behind, definitions::proofs::OpeningNotices::parts_length))]
+fn read_meta(len: usize, mut parts: Parts) -> Result<Form, InvalidPart>
+    requires { len + 1 + length parts.left.now < 2 ^ 64 }
+    ensures { result ≡ meta_behind len (parts_behind parts.entry.left.now) }
 {
-    if at == pragma.len() {
-        return PragmaRead::Invalid(0, at);
+    match parts.next() {
+        Some(part) if part == b"meta".as_slice() => read_tail(
+            PragmaRoot::ImportMeta,
+            parts,
+            len + 1 + part.len() + 1,
+        ),
+        _ => Err(InvalidPart { place: 0, len }),
     }
-    let start = at + 1;
-    let end = start + first_length(&pragma[start..]);
-    if same(&pragma[start..end], b"meta") {
-        return read_tail(PragmaRoot::ImportMeta, pragma, end);
-    }
-    PragmaRead::Invalid(0, at)
 }
 
 // A pragma: its form, or the first part that fails, its place counted from the pragma's front.
-pub fn parse_impl(pragma: &[u8]) -> PragmaRead
+#[tactic(auto, using(crate::proofs::Splitting::first_inside, crate::proofs::Splitting::root_parts, crate::proofs::Splitting::root_length), unfolding(definitions::specs::Pragmas::parts_read))]
+pub fn parse_impl(pragma: &[u8]) -> Result<Form, InvalidPart>
     ensures { result ≡ pragma_of pragma.now }
 {
-    let end = first_length(pragma);
-    let root = &pragma[0..end];
-    if same(root, b"this") {
-        return read_tail(PragmaRoot::This, pragma, end);
+    let len = first_length(pragma);
+    let (root, left) = pragma.split_at(len);
+    let parts = Parts { left };
+    if root == b"this".as_slice() {
+        return read_tail(PragmaRoot::This, parts, len + 1);
     }
-    if same(root, b"import") {
-        return read_meta(pragma, end);
+    if root == b"import".as_slice() {
+        return read_meta(len, parts);
     }
-    if !is_identifier_name(root) {
-        return PragmaRead::Invalid(0, end);
+    if !is_identifier_name(root) | is_reserved_keyword(root) {
+        return Err(InvalidPart { place: 0, len });
     }
-    if is_reserved_keyword(root) {
-        return PragmaRead::Invalid(0, end);
-    }
-    read_tail(PragmaRoot::Identifier, pragma, end)
+    read_tail(PragmaRoot::Identifier, parts, len + 1)
 }
 
 // A pragma that may be absent; the place of a part that fails is its place in the text.
-pub fn parse_no_ctx(text: &[u8], pragma: Optional) -> PragmaRead
+#[tactic(auto, using(crate::proofs::Places::invalid_place), unfolding(definitions::specs::Pragmas::pragma_in, definitions::specs::Pragmas::behind_place))]
+pub fn parse_no_ctx(text: &[u8], pragma: Option<Span>) -> Result<Option<Form>, InvalidPart>
     ensures { result ≡ pragma_in text.now pragma }
 {
-    match pragma {
-        Optional::Absent => PragmaRead::Absent,
-        Optional::Present(span) => {
-            let start = span.start as usize;
-            match parse_impl(part(text, span)) {
-                PragmaRead::Absent => PragmaRead::Absent,
-                PragmaRead::Valid(form) => PragmaRead::Valid(form),
-                PragmaRead::Invalid(place, len) => {
-                    let offset = start + place;
-                    PragmaRead::Invalid(offset, len)
-                }
-            }
-        }
+    let Some(span) = pragma else {
+        return Ok(None);
+    };
+    match parse_impl(part(text, span)) {
+        Ok(form) => Ok(Some(form)),
+        Err(InvalidPart { place, len }) => Err(InvalidPart {
+            place: span.start as usize + place,
+            len,
+        }),
     }
 }
 
 // A pragma in these bindings: only classic ones have pragmas.
-pub fn pragma_under(mode: Mode, text: &[u8], pragma: Optional) -> PragmaRead
+#[tactic(auto, unfolding(definitions::specs::Opening::pragma_under))]
+pub fn pragma_under(
+    mode: Mode,
+    text: &[u8],
+    pragma: Option<Span>,
+) -> Result<Option<Form>, InvalidPart>
     ensures { result ≡ pragma_under mode text.now pragma }
 {
     match mode {
-        Mode::Module => PragmaRead::Absent,
-        Mode::Script => PragmaRead::Absent,
+        Mode::Module | Mode::Script => Ok(None),
         Mode::Classic => parse_no_ctx(text, pragma),
     }
 }
 
 // The form that settings take: the default's where none is there and where it is not valid.
-pub fn form_by(read: PragmaRead) -> Form
+#[tactic(auto, unfolding(definitions::specs::Pragmas::form_by))]
+pub fn form_by(read: Result<Option<Form>, InvalidPart>) -> Form
     ensures { result ≡ form_by read }
 {
     match read {
-        PragmaRead::Valid(form) => form,
-        PragmaRead::Absent => Form {
-            root: PragmaRoot::Default,
-            tail: 0,
-        },
-        PragmaRead::Invalid(_, _) => Form {
+        Ok(Some(form)) => form,
+        Ok(None) | Err(_) => Form {
             root: PragmaRoot::Default,
             tail: 0,
         },
@@ -185,34 +230,29 @@ pub fn form_by(read: PragmaRead) -> Form
 }
 
 // The form of a pragma in these bindings.
-pub fn form_under(mode: Mode, text: &[u8], pragma: Optional) -> Form
+pub fn form_under(mode: Mode, text: &[u8], pragma: Option<Span>) -> Form
     ensures { result ≡ form_under mode text.now pragma }
 {
     form_by(pragma_under(mode, text, pragma))
 }
 
 // The place of the first byte over 7F of a pragma.
-fn over_ascii_in(text: &[u8], pragma: Optional) -> Found
+#[tactic(auto, using(crate::proofs::Places::over_ascii_place), unfolding(definitions::specs::Opening::over_ascii_in, definitions::specs::Opening::shifted))]
+fn over_ascii_in(text: &[u8], pragma: Option<Span>) -> Option<usize>
     ensures { result ≡ over_ascii_in text.now pragma }
 {
-    match pragma {
-        Optional::Absent => Found::Nothing,
-        Optional::Present(span) => {
-            let Found::At(place) = find_over_ascii(part(text, span)) else {
-                return Found::Nothing;
-            };
-            Found::At(span.start as usize + place)
-        }
-    }
+    let span = pragma?;
+    let place = find_over_ascii(part(text, span))?;
+    Some(span.start as usize + place)
 }
 
 // The same in these bindings: only in classic ones a pragma is in force.
-pub fn over_ascii_under(mode: Mode, text: &[u8], pragma: Optional) -> Found
+#[tactic(auto, unfolding(definitions::specs::Opening::if_classic))]
+pub fn over_ascii_under(mode: Mode, text: &[u8], pragma: Option<Span>) -> Option<usize>
     ensures { result ≡ if_classic mode (over_ascii_in text.now pragma) }
 {
     match mode {
         Mode::Classic => over_ascii_in(text, pragma),
-        Mode::Module => Found::Nothing,
-        Mode::Script => Found::Nothing,
+        Mode::Module | Mode::Script => None,
     }
 }

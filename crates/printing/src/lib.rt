@@ -5,8 +5,9 @@ ghost use Rattle.std.specs.Prelude.{◌≡◌, [], ◌∷◌, ◌++◌, ◌+◌,
 ghost use Rattle.tape.specs.Targets.{Wrote};
 ghost use Rattle.printing.specs.Lines.{hex_digit, hex_of, hex_bytes, line_of};
 
-use tape::target::{put, put_slice, put_two};
+use tape::target::Encode;
 
+// kept: lines are laid into lent memory, where it is too short too, and their contract says what it then holds; `{:02x}` needs a writer.
 // Ten before `a`, the digit of ten.
 const LETTERS: u8 = b'a' - 10;
 
@@ -24,8 +25,7 @@ fn digit(n: u8) -> u8
 fn put_byte(out: &mut [u8], at: usize, b: u8) -> usize
     ensures { Wrote out.old out.new at result (hex_of b) }
 {
-    let next = put(out, at, b' ');
-    put_two(out, next, digit(b / 16), digit(b % 16))
+    [b' ', digit(b / 16), digit(b % 16)].encode(out, at)
 }
 
 // The same for each of the bytes.
@@ -33,11 +33,9 @@ pub fn put_bytes(bytes: &[u8], out: &mut [u8], at: usize) -> usize
     requires { at ≤ 2 ^ 63 }
     ensures { Wrote out.old out.new at result (hex_bytes bytes.now) }
 {
-    let mut i: usize = 0;
     let mut next = at;
-    while i < bytes.len() {
-        next = put_byte(out, next, bytes[i]);
-        i += 1;
+    for b in bytes {
+        next = put_byte(out, next, *b);
     }
     next
 }
@@ -46,7 +44,7 @@ pub fn put_bytes(bytes: &[u8], out: &mut [u8], at: usize) -> usize
 pub fn put_line(word: &[u8], bytes: &[u8], out: &mut [u8]) -> usize
     ensures { Wrote out.old out.new 0 result (line_of word.now bytes.now) }
 {
-    let worded = put_slice(out, 0, word);
+    let worded = word.encode(out, 0);
     let filled = put_bytes(bytes, out, worded);
-    put(out, filled, b'\n')
+    b'\n'.encode(out, filled)
 }

@@ -1,6 +1,6 @@
 -- The groups of the record tape (`with_group`, `groups_from` of definitions, Records; `known_sources` of specs, Grouping).
 --     group_first, group_again, group_new, group_two      a source with no group, one group and two, by the code's tests
---     groups_next, groups_end, known_next                 a walk through the first n records of an array, at element i
+--     groups_next, groups_end, known_next                 a walk through records, at element i
 --     bindable_known                                      records that settings can bind have source 0 or 1
 -- Assumes nothing.
 use mathlib.Core.Path.{◌≡◌, refl, sym, ap}
@@ -9,8 +9,8 @@ use mathlib.Core.List.{List, [], ◌∷◌}
 use Prim.Native.Nat.{ℕ, suc, ◌+◌, ◌≤◌, ◌<◌}
 use native.Mathlib.Numerals.{add-one}
 use native.Mathlib.Omega.{arith}
-use lib.ListN.{length, get_or}
-use lib.Seq.{slice, slice-cons, slice_empty}
+use lib.ListN.{length, get_or, drop, drop_of_length-le}
+use lib.Seq.{drop-cons}
 use lib.Dec.{eqb, ltb}
 use borrow.Author.Tests.{eq-eqb, ne_eqb, eqb-true, eqb-false, lt-ltb}
 use Rattle.definitions.specs.declared.options.Mode.{Mode}
@@ -65,19 +65,19 @@ group_two front s t u h k = go front (eqb u s) refl
 
 -- ---- a walk through the records
 
-pub groups_next : (g : List ℕ) (a : List Record) (i n : ℕ) → i < n → n ≤ length a
-    → groups_from g (slice i n a) ≡ groups_from (grouped_by g (get_or a i nowhere).import) (slice (i + 1) n a)
+pub groups_next : (g : List ℕ) (a : List Record) (i : ℕ) → i < length a
+    → groups_from g (drop i a) ≡ groups_from (grouped_by g (get_or a i nowhere).import) (drop (i + 1) a)
 unfolding groups_from
-groups_next g a i n h k = rw (slice-cons i n a nowhere h k, add-one)
+groups_next g a i h = rw (drop-cons a i nowhere h, add-one)
 
-pub groups_end : (g : List ℕ) (n : ℕ) (a : List Record) → groups_from g (slice n n a) ≡ g
+pub groups_end : (g : List ℕ) (a : List Record) (i : ℕ) → length a ≤ i → groups_from g (drop i a) ≡ g
 unfolding groups_from
-groups_end g n a = rw (slice_empty n a)
+groups_end g a i h = rw (drop_of_length-le a h)
 
-pub known_next : (a : List Record) (i n : ℕ) → i < n → n ≤ length a → known_sources (slice i n a) ≡ true
-    → (known_source (get_or a i nowhere).import ≡ true) × (known_sources (slice (i + 1) n a) ≡ true)
+pub known_next : (a : List Record) (i : ℕ) → i < length a → known_sources (drop i a) ≡ true
+    → (known_source (get_or a i nowhere).import ≡ true) × (known_sources (drop (i + 1) a) ≡ true)
 unfolding known_sources
-known_next a i n h k e = rw add-one ((and-eq-true_iff (known_source (get_or a i nowhere).import) (known_sources (slice (suc i) n a))).0 (rw (slice-cons i n a nowhere h k) at e))
+known_next a i h e = rw add-one ((and-eq-true_iff (known_source (get_or a i nowhere).import) (known_sources (drop (suc i) a))).0 (rw (drop-cons a i nowhere h) at e))
 
 -- ---- sources
 

@@ -3,6 +3,8 @@
 --     tape_size, tape_laid        what the two runs over the records give: the tape's length, and the target with the tape
 --     crowded, roomy              refusal 10, and a target with room
 -- Assumes nothing.
+use Rattle.std.specs.Prelude.{Err, Ok, Result}
+use Rattle.tape.specs.declared.refusal.Refusal.{Refusal}
 use mathlib.Core.Path.{◌≡◌, refl, ap, ◌∙◌}
 use mathlib.Core.List.{List, [], ◌∷◌, ◌++◌}
 use Prim.Native.Nat.{ℕ, ◌+◌, ◌*◌, ◌≤◌, ◌<◌}
@@ -14,32 +16,26 @@ use Rattle.tape.specs.Targets.{Wrote}
 use Rattle.tape.proofs.Targets.{sets_room}
 use Rattle.definitions.specs.declared.options.Mode.{Mode}
 use Rattle.definitions.specs.declared.records.Record.{Record}
-use Rattle.definitions.specs.declared.state.Written.{Written}
-use Rattle.definitions.specs.declared.state.Written.TheVariants.{Accepted, Refused}
 use Rattle.definitions.specs.Judging.{Judged, refuse}
 use Rattle.definitions.specs.Records.{groups_from, entries_in, group_tape, place_in, file_name_tape, record_tape}
 use Rattle.definitions.specs.Entries.{laid, judge_tape, records_answer, records_target}
 use Rattle.records.specs.declared.groups.Groups.{Groups}
 use Rattle.records.specs.declared.groups.Groups.TheVariants.{Empty, One, Two}
-use Rattle.records.specs.declared.record_tape.Part.TheVariants.{Group, FileName}
 use Rattle.records.specs.Grouping.{sources_of}
 use Rattle.records.specs.Tape.{tape_of}
-use Rattle.records.proofs.Tape.{part_group, part_file, part_length}
+use Rattle.records.proofs.Tape.{entries_length, file_names_length}
 
-abbrev pub Comes : Judged (List ℕ) → Written → List ℕ → List ℕ → Type 0
+abbrev pub Comes : Judged (List ℕ) → Result ℕ Refusal → List ℕ → List ℕ → Type 0
 Comes j w before after = (w ≡ records_answer j) × (after ≡ records_target before j)
 
 -- ---- the tape's length
 
-group_length : (s : ℕ) (rs : List Record) → length (entries_in s rs) ≤ 3 * length rs
-group_length s rs = rw (← part_group s rs) (part_length (Group s) rs)
-
 groups_length : (g : Groups) (rs : List Record) → length (group_tape rs (sources_of g)) ≤ 6 * length rs + 4
 unfolding sources_of group_tape
 groups_length Empty rs = omega arith
-groups_length (One s) rs = omega (arith, length-append (entries_in s rs) [], group_length s rs)
+groups_length (One s) rs = omega (arith, length-append (entries_in s rs) [], entries_length s rs)
 groups_length (Two s t) rs =
-    omega (arith, length-append (entries_in s rs) (0xb0 ∷ t ∷ entries_in t rs ++ []), length-append (entries_in t rs) [], group_length s rs, group_length t rs)
+    omega (arith, length-append (entries_in s rs) (0xb0 ∷ t ∷ entries_in t rs ++ []), length-append (entries_in t rs) [], entries_length s rs, entries_length t rs)
 
 tape_length : (m : Mode) (g : Groups) (rs : List Record) → length (tape_of m g rs) ≤ 9 * length rs + 4
 unfolding tape_of
@@ -48,7 +44,7 @@ tape_length m g rs =
       arith,
       length-append (group_tape rs (sources_of g)) (file_name_tape (place_in m) rs),
       groups_length g rs,
-      rw (part_file (place_in m) rs) at (part_length (FileName (place_in m)) rs),
+      file_names_length (place_in m) rs,
     )
 
 -- ---- the two runs
@@ -67,10 +63,10 @@ module _ (m : Mode) (g : Groups) (rs : List Record) (e : sources_of g ≡ groups
 
 -- ---- by the code's tests
 
-pub crowded : (t o : List ℕ) → length o < length t → Comes (judge_tape t (length o)) (Refused (Space (length t))) o o
+pub crowded : (t o : List ℕ) → length o < length t → Comes (judge_tape t (length o)) (Err (Space (length t))) o o
 unfolding refuse records_answer records_target
 crowded t o h = rw (lt-ltb (length o) (length t) h) (refl, refl)
 
-pub roomy : (t o : List ℕ) → length t ≤ length o → Comes (judge_tape t (length o)) (Accepted (length t)) o (laid 0 t o)
+pub roomy : (t o : List ℕ) → length t ≤ length o → Comes (judge_tape t (length o)) (Ok (length t)) o (laid 0 t o)
 unfolding refuse records_answer records_target
 roomy t o h = rw (le-ltb (length o) (length t) h) (refl, refl)

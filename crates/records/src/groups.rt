@@ -1,5 +1,5 @@
 // The groups of the record tape: one for each source, in order of first use.
-ghost use Rattle.std.specs.Prelude.{◌≡◌, true, [], ◌≤◌, ◌<◌, take};
+ghost use Rattle.std.specs.Prelude.{◌≡◌, true, [], ◌<◌};
 ghost use Rattle.definitions.specs.Records.{with_group, grouped_by, groups_from};
 ghost use Rattle.records.specs.Grouping.{sources_of, Apart, Are, known_source, known_sources};
 
@@ -50,18 +50,14 @@ fn grouped_by(groups: Groups, import: Import) -> Groups
     }
 }
 
-// The groups of the first n records.
-pub fn groups_of(records: [Record; 8], n: usize) -> Groups
-    requires { (n ≤ 8) × (known_sources (take n records) ≡ true) }
-    ensures { sources_of result ≡ groups_from [] (take n records) }
+// The groups of the records.
+pub fn groups_of(records: &[Record]) -> Groups
+    requires { known_sources records.now ≡ true }
+    ensures { sources_of result ≡ groups_from [] records.now }
 {
     let mut groups = Groups::Empty;
-    let mut i = 0;
-    while i < n {
-        let r = records[i];
-        let import = r.import;
-        groups = grouped_by(groups, import);
-        i += 1;
+    for record in records {
+        groups = grouped_by(groups, record.import);
     }
     groups
 }

@@ -12,10 +12,10 @@ use lib.ListN.{length, drop, length-drop}
 use lib.Seq.{drop-drop}
 use lib.Dec.{eqb, ltb}
 use borrow.Author.Tests.{eqb-true, lt-ltb, le-ltb}
-use Rattle.text.specs.Bytes.{ascii, same}
+use Rattle.text.specs.Bytes.{ascii}
 use Rattle.references.specs.declared.Kind.TheVariants.{Name, Decimal, Hexadecimal}
 use Rattle.references.specs.declared.Opening.{Opening}
-use Rattle.references.specs.declared.Front.TheVariants.{Reference, Bare}
+use Rattle.std.specs.Prelude.{None, Some}
 use Rattle.references.specs.References.{is_of, run, begins, closed, opens_as, opens_in, opens_reference, has_reference}
 use Rattle.references.specs.Walks.{signed, opening_of, Fronts}
 use Rattle.references.proofs.Bare.{never, has_bare}
@@ -31,34 +31,33 @@ and_true false e = e
 
 -- a list that begins with one byte is this byte and what stands behind it
 begins_one : (x : ℕ) (l : List ℕ) → begins (x ∷ []) l ≡ true → x ∷ drop 1 l ≡ l
-unfolding same
 begins_one x [] e = absurd (never e)
 begins_one x (b ∷ l) e = ap (λ (y : ℕ). y ∷ l) (sym (eqb-true b x (and_true (eqb b x) e)))
 
 -- ---- which of the forms can stand at an ampersand, by the bytes behind it
 
 opens_name : (l : List ℕ) → begins (ascii "#") l ≡ false → opens_reference (0x26 ∷ l) ≡ closed Name l
-unfolding opens_in opens_as same
+unfolding opens_in opens_as
 opens_name [] e = or_false _
 opens_name (b ∷ l) e = rw (and_true (eqb b 0x23) e, or_false (closed Name (b ∷ l)))
 
 opens_decimal : (l : List ℕ) → begins (ascii "x") l ≡ false → begins (ascii "+") l ≡ false → opens_reference (0x26 ∷ 0x23 ∷ l) ≡ closed Decimal l
-unfolding opens_in opens_as same is_of
+unfolding opens_in opens_as is_of
 opens_decimal [] e f = rw (closed_none Name 0x23 [] refl, or_false (closed Decimal []))
 opens_decimal (b ∷ l) e f = rw (closed_none Name 0x23 (b ∷ l) refl, and_true (eqb b 0x78) e, and_true (eqb b 0x2b) f, or_false (closed Decimal (b ∷ l)))
 
 opens_decimal_plus : (l : List ℕ) → opens_reference (0x26 ∷ 0x23 ∷ 0x2b ∷ l) ≡ closed Decimal l
-unfolding opens_in opens_as same is_of
+unfolding opens_in opens_as is_of
 opens_decimal_plus l = rw (closed_none Name 0x23 (0x2b ∷ l) refl, closed_none Decimal 0x2b l refl, or_false (closed Decimal l))
 
 opens_hexadecimal : (l : List ℕ) → begins (ascii "+") l ≡ false → opens_reference (0x26 ∷ 0x23 ∷ 0x78 ∷ l) ≡ closed Hexadecimal l
-unfolding opens_in opens_as same is_of
+unfolding opens_in opens_as is_of
 opens_hexadecimal [] f = rw (closed_none Name 0x23 (0x78 ∷ []) refl, closed_none Decimal 0x78 [] refl, or_false (closed Hexadecimal []))
 opens_hexadecimal (b ∷ l) f =
     rw (closed_none Name 0x23 (0x78 ∷ b ∷ l) refl, closed_none Decimal 0x78 (b ∷ l) refl, and_true (eqb b 0x2b) f, or_false (closed Hexadecimal (b ∷ l)))
 
 opens_hexadecimal_plus : (l : List ℕ) → opens_reference (0x26 ∷ 0x23 ∷ 0x78 ∷ 0x2b ∷ l) ≡ closed Hexadecimal l
-unfolding opens_in opens_as same is_of
+unfolding opens_in opens_as is_of
 opens_hexadecimal_plus l =
     rw (closed_none Name 0x23 (0x78 ∷ 0x2b ∷ l) refl, closed_none Decimal 0x78 (0x2b ∷ l) refl, closed_none Hexadecimal 0x2b l refl, or_false (closed Hexadecimal l))
 
@@ -81,28 +80,28 @@ unfolding opening_of
 found_name l e = rw e (record { some = omega arith; within = omega arith; decided = sign_has l ∙ rw (opens_name l e) })
 
 found_decimal : (l : List ℕ) → begins (ascii "x") l ≡ false → begins (ascii "+") l ≡ false → Found (0x26 ∷ 0x23 ∷ l)
-unfolding opening_of signed same
+unfolding opening_of signed
 found_decimal l e f = rw (e, f) (record { some = omega arith; within = omega arith; decided = go })
   where
     go : has_reference (0x26 ∷ 0x23 ∷ l) ≡ (closed Decimal l || has_reference l)
     go = sign_has (0x23 ∷ l) ∙ rw (opens_decimal l e f, has_bare 0x23 l refl)
 
 found_decimal_plus : (l : List ℕ) → Found (0x26 ∷ 0x23 ∷ 0x2b ∷ l)
-unfolding opening_of signed same
+unfolding opening_of signed
 found_decimal_plus l = record { some = omega arith; within = omega arith; decided = go }
   where
     go : has_reference (0x26 ∷ 0x23 ∷ 0x2b ∷ l) ≡ (closed Decimal l || has_reference l)
     go = sign_has (0x23 ∷ 0x2b ∷ l) ∙ rw (opens_decimal_plus l, has_bare 0x23 (0x2b ∷ l) refl, has_bare 0x2b l refl)
 
 found_hexadecimal : (l : List ℕ) → begins (ascii "+") l ≡ false → Found (0x26 ∷ 0x23 ∷ 0x78 ∷ l)
-unfolding opening_of signed same
+unfolding opening_of signed
 found_hexadecimal l f = rw f (record { some = omega arith; within = omega arith; decided = go })
   where
     go : has_reference (0x26 ∷ 0x23 ∷ 0x78 ∷ l) ≡ (closed Hexadecimal l || has_reference l)
     go = sign_has (0x23 ∷ 0x78 ∷ l) ∙ rw (opens_hexadecimal l f, has_bare 0x23 (0x78 ∷ l) refl, has_bare 0x78 l refl)
 
 found_hexadecimal_plus : (l : List ℕ) → Found (0x26 ∷ 0x23 ∷ 0x78 ∷ 0x2b ∷ l)
-unfolding opening_of signed same
+unfolding opening_of signed
 found_hexadecimal_plus l = record { some = omega arith; within = omega arith; decided = go }
   where
     go : has_reference (0x26 ∷ 0x23 ∷ 0x78 ∷ 0x2b ∷ l) ≡ (closed Hexadecimal l || has_reference l)
@@ -139,7 +138,7 @@ opening_decides l e = subst Found (begins_one 0x26 l e) (found_sign (drop 1 l))
 -- ---- what is told of the front, by the opening, and by where the bytes of its kind end
 
 module _ {l : List ℕ} {o : Opening} (d : Decides l o) {end : ℕ} (e : end ≡ o.len + run o.kind (drop o.len l)) where
-  end_within : (1 ≤ end) × (end ≤ length l)
+  pub end_within : (1 ≤ end) × (end ≤ length l)
   end_within = (
     omega (arith, d.some),
     omega (arith, d.within, run_within o.kind (drop o.len l), length-drop o.len l),
@@ -149,7 +148,7 @@ module _ {l : List ℕ} {o : Opening} (d : Decides l o) {end : ℕ} (e : end ≡
   rest : drop (run o.kind (drop o.len l)) (drop o.len l) ≡ drop end l
   rest = drop-drop (run o.kind (drop o.len l)) o.len l ∙ ap (λ (n : ℕ). drop n l) (sym e)
 
-  bare : closed o.kind (drop o.len l) ≡ false → Fronts l (Bare end)
+  bare : closed o.kind (drop o.len l) ≡ false → Fronts l (Some end)
   bare c = (
     end_within.0,
     end_within.1,
@@ -161,15 +160,15 @@ module _ {l : List ℕ} {o : Opening} (d : Decides l o) {end : ℕ} (e : end ≡
   unfolding closed
   closed_by = rw rest
 
-  pub front_none : end ≡ o.len → Fronts l (Bare end)
+  pub front_none : end ≡ o.len → Fronts l (Some end)
   front_none z = bare (closed_by ∙ rw (le-ltb 0 (run o.kind (drop o.len l)) (omega arith)))
 
-  pub front_open : begins (ascii ";") (drop end l) ≡ false → Fronts l (Bare end)
+  pub front_open : begins (ascii ";") (drop end l) ≡ false → Fronts l (Some end)
   front_open b = bare (closed_by ∙ rw b (go (ltb 0 (run o.kind (drop o.len l)))))
     where
       go : (t : Bool) → (t && false) ≡ false
       go true = refl
       go false = refl
 
-  pub front_closed : (end ≡ o.len → ⊥) → begins (ascii ";") (drop end l) ≡ true → Fronts l Reference
+  pub front_closed : (end ≡ o.len → ⊥) → begins (ascii ";") (drop end l) ≡ true → Fronts l None
   front_closed z b = d.decided ∙ rw (closed_by, b, lt-ltb 0 (run o.kind (drop o.len l)) (omega arith))

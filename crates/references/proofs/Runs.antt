@@ -1,37 +1,31 @@
 -- Runs of bytes of one kind.
---     run_more, run_stop, run_out     a loop's steps
+--     run_is                          how many bytes `take_while` gives
 --     run_within, run_bare            a run ends within the list, and has no ampersand
 --     closed_none                     nothing is closed where no byte of the kind stands
 -- Assumes nothing.
 use mathlib.Core.Path.{◌≡◌, refl, sym, ap, ◌∙◌}
 use mathlib.Core.Bool.{Bool, true, false, cond}
 use mathlib.Core.List.{List, [], ◌∷◌}
-use Prim.Native.Nat.{ℕ, suc, ◌+◌, ◌≤◌, ◌<◌}
-use native.Mathlib.Nat.{add-zero, add-suc, suc-add}
-use native.Mathlib.Numerals.{add-one}
+use Prim.Native.Nat.{ℕ, suc, ◌+◌, ◌≤◌}
 use native.Mathlib.Omega.{arith}
-use lib.ListN.{length, get_or, drop, drop_of_length-le}
+use lib.ListN.{length, drop}
 use lib.Dec.{eqb}
+use Rattle.std.specs.List.{prefix_len}
 use borrow.Author.Tests.{eqb-true}
-use Rattle.text.proofs.Lists.{drop_one}
 use Rattle.references.specs.declared.Kind.{Kind}
 use Rattle.references.specs.declared.Kind.TheVariants.{Name, Decimal, Hexadecimal}
 use Rattle.references.specs.References.{is_of, run, closed, has_reference}
 use Rattle.references.proofs.Bare.{never, has_bare}
 
 module _ (k : Kind) where
-  -- ---- from place i of a list
-  pub run_more : (s : List ℕ) (i : ℕ) → i < length s → is_of k (get_or s i 0) ≡ true → i + run k (drop i s) ≡ (i + 1) + run k (drop (i + 1) s)
-  unfolding run
-  run_more s i h e = ap (λ (l : List ℕ). i + run k l) (drop_one s i h) ∙ rw (e, add-one, add-suc, suc-add)
+  add_one_front : (n : ℕ) → 1 + n ≡ suc n
+  add_one_front n = omega arith
 
-  pub run_stop : (s : List ℕ) (i : ℕ) → i < length s → is_of k (get_or s i 0) ≡ false → i + run k (drop i s) ≡ i
+  -- ---- the library's word for it
+  pub run_is : (l : List ℕ) → prefix_len (is_of k) l ≡ run k l
   unfolding run
-  run_stop s i h e = ap (λ (l : List ℕ). i + run k l) (drop_one s i h) ∙ rw (e, add-zero)
-
-  pub run_out : (s : List ℕ) (i : ℕ) → length s ≤ i → i + run k (drop i s) ≡ i
-  unfolding run
-  run_out s i h = rw (drop_of_length-le s h, add-zero)
+  run_is [] = refl
+  run_is (b ∷ l) = rw (run_is l, add_one_front (run k l))
 
   -- ---- what a run is
   pub run_within : (l : List ℕ) → run k l ≤ length l

@@ -1,51 +1,45 @@
--- The search's turns, over the parts `&s[i..]` that the code hands on.
---     next_none, next_found     the next ampersand from place i on
---     front_bare, front_told    what it opens
+-- The search's turns, over the parts `&rest[n..]` that the code hands on, where the next ampersand stands at n.
+--     sign_inside, sign_there       it stands there
+--     found_reference, found_bare   what it opens
 -- Assumes nothing.
+use Rattle.std.specs.Prelude.{None, Some}
 use mathlib.Core.Path.{◌≡◌, ap, ◌∙◌}
-use mathlib.Core.Bool.{true, false}
+use mathlib.Core.Bool.{true}
 use mathlib.Core.List.{List}
 use Prim.Native.Nat.{ℕ, ◌+◌, ◌-◌, ◌≤◌, ◌<◌}
 use native.Mathlib.Omega.{arith}
 use lib.ListN.{length, take, drop, length-drop}
 use lib.Seq.{drop-drop}
 use lib.Dec.{eqb}
-use Rattle.text.specs.declared.bytes.Found.TheVariants.{At, Nothing}
 use Rattle.text.specs.Bytes.{ascii, find}
 use Rattle.text.proofs.Lists.{tail_part}
 use Rattle.text.proofs.Searching.{find_found}
-use Rattle.references.specs.declared.Front.TheVariants.{Reference, Bare}
 use Rattle.references.specs.References.{begins, has_reference}
 use Rattle.references.specs.Walks.{Fronts}
-use Rattle.references.proofs.Bare.{sign_found, sign_none, sign_begins}
+use Rattle.references.proofs.Bare.{sign_found, sign_begins}
 
 -- the list from place i on, as the code has it
 abbrev from : List ℕ → ℕ → List ℕ
 from s i = take (length s - i) (drop i s)
 
-module _ (s : List ℕ) (i : ℕ) where
-  pub next_none : find (eqb 0x26) (from s i) ≡ Nothing → has_reference (drop i s) ≡ false
-  next_none e = sign_none (drop i s) (rw (tail_part s i) at e)
+module _ (l : List ℕ) (n : ℕ) (e : find (eqb 0x26) l ≡ Some n) where
+  pub sign_inside : n < length l
+  sign_inside = (find_found (eqb 0x26) l n e).inside
 
-  pub record Sign (n : ℕ) : Type 0 where
-    pub inside : i + n < length s
-    pub passed : has_reference (drop i s) ≡ has_reference (drop (i + n) s)
-    pub there : begins (ascii "&") (from s (i + n)) ≡ true
+  pub sign_there : begins (ascii "&") (from l n) ≡ true
+  sign_there = rw (tail_part l n) (sign_begins l n e)
 
-  pub next_found : i ≤ length s → (n : ℕ) → find (eqb 0x26) (from s i) ≡ At n → Sign n
-  next_found h n e =
-      let f : find (eqb 0x26) (drop i s) ≡ At n = rw (tail_part s i) at e in
-      record {
-        inside = omega (arith, (find_found (eqb 0x26) (drop i s) n f).inside, length-drop i s);
-        passed = sign_found (drop i s) n f ∙ ap has_reference (drop-drop n i s);
-        there = rw (tail_part s (i + n), ← drop-drop n i s) (sign_begins (drop i s) n f);
-      }
+  pub sign_passed : has_reference l ≡ has_reference (from l n)
+  sign_passed = rw (tail_part l n) (sign_found l n e)
 
-  pub front_told : Fronts (from s i) Reference → has_reference (drop i s) ≡ true
-  front_told e = rw (tail_part s i) at e
+  pub found_reference : Fronts (from l n) None → has_reference l ≡ true
+  found_reference f = sign_passed ∙ f
 
-  pub front_bare : i ≤ length s → (m : ℕ) → Fronts (from s i) (Bare m)
-      → (1 ≤ m) × (i + m ≤ length s) × (has_reference (drop i s) ≡ has_reference (drop (i + m) s))
-  front_bare h m f =
-      let g : Fronts (drop i s) (Bare m) = rw (tail_part s i) at f in
-      (g.0, omega (arith, g.1, length-drop i s), g.2 ∙ ap has_reference (drop-drop m i s))
+  pub found_bare : (m : ℕ) → Fronts (from l n) (Some m)
+      → (1 ≤ m) × (n + m ≤ length l) × (has_reference l ≡ has_reference (from l (n + m)))
+  found_bare m f =
+      let g : Fronts (drop n l) (Some m) = rw (tail_part l n) at f in (
+        g.0,
+        omega (arith, g.1, length-drop n l, sign_inside),
+        rw (tail_part l (n + m)) (sign_found l n e ∙ (g.2 ∙ ap has_reference (drop-drop m n l))),
+      )

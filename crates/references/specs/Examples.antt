@@ -1,6 +1,6 @@
 -- Worked examples, computed from the definitions: those of change request 1 and of its readings.
 use Rattle.std.specs.Prelude.{◌≡◌, refl, true, false, [], ◌∷◌, map, replicate}
-use Rattle.text.specs.Bytes.{ascii, same}
+use Rattle.text.specs.Bytes.{ascii}
 use Rattle.references.specs.References.{is_of, run, closed, opens_as, opens_in, has_reference}
 
 -- each has a reference: a name, whatever it says, also one that begins with a digit; decimal and hexadecimal numbers, also those that are no character; a plus sign; hexadecimal
@@ -23,7 +23,7 @@ pub references :
     ∷ ascii "R&D; 1"
     ∷ [])
     ≡ replicate 14 true
-unfolding has_reference opens_in opens_as closed run is_of same
+unfolding has_reference opens_in opens_as closed run is_of
 references = refl
 
 -- plain text: nothing, "Q & A", ampersands side by side; upper-case X; a minus sign; no name, no digits; two plus signs, a plus sign before a name; a letter behind decimal digits, and one that is no
@@ -55,5 +55,5 @@ pub plain :
     ∷ ascii "&#x#1;"
     ∷ [])
     ≡ replicate 23 false
-unfolding has_reference opens_in opens_as closed run is_of same
+unfolding has_reference opens_in opens_as closed run is_of
 plain = refl

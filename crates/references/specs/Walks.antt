@@ -1,11 +1,9 @@
 -- How a walk over a text decides whether it has a reference: by the ampersand at its front, which of the forms can open there, and how far no other can.
-use Rattle.std.specs.Prelude.{ℕ, ◌+◌, ◌≤◌, ◌≡◌, true, cond, List, length, drop}
+use Rattle.std.specs.Prelude.{ℕ, ◌+◌, ◌≤◌, ◌≡◌, true, cond, List, length, drop, Option, None, Some}
 use Rattle.text.specs.Bytes.{ascii}
 use Rattle.references.specs.declared.Kind.{Kind}
 use Rattle.references.specs.declared.Kind.TheVariants.{Name, Decimal, Hexadecimal}
 use Rattle.references.specs.declared.Opening.{Opening}
-use Rattle.references.specs.declared.Front.{Front}
-use Rattle.references.specs.declared.Front.TheVariants as front
 use Rattle.references.specs.References.{begins, has_reference}
 
 -- digits behind n bytes, or behind the plus sign that follows these
@@ -20,6 +18,6 @@ opening_of l =
     (record { kind = Name; len = 1 })
 
 -- what is told of the front: a reference stands there; or none does, nor does one begin within so many bytes
-abbrev pub Fronts : List ℕ → Front → Type 0
-Fronts l front.Reference = has_reference l ≡ true
-Fronts l (front.Bare n) = (1 ≤ n) × (n ≤ length l) × (has_reference l ≡ has_reference (drop n l))
+abbrev pub Fronts : List ℕ → Option ℕ → Type 0
+Fronts l None = has_reference l ≡ true
+Fronts l (Some n) = (1 ≤ n) × (n ≤ length l) × (has_reference l ≡ has_reference (drop n l))

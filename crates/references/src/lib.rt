@@ -4,12 +4,12 @@
 //     R&D;          a reference      &#+65;  &#x+41;  &1;    references
 #![tactic(auto)]
 
-ghost use Rattle.std.specs.Prelude.{◌≡◌, true, ◌+◌, ◌≤◌, [], ◌∷◌, length, drop, eqb};
+ghost use Rattle.std.specs.Prelude.{◌≡◌, true, [], ◌∷◌, drop, eqb};
 ghost use Rattle.text.specs.Bytes.{ascii, find};
 ghost use Rattle.references.specs.References.{is_of, run, begins, has_reference};
 ghost use Rattle.references.specs.Walks.{signed, opening_of, Fronts};
 
-use text::bytes::{Found, find_byte};
+use text::bytes::find_byte;
 
 // What stands between a reference's opening and its semicolon: letters and digits, or digits.
 #[derive(Clone, Copy)]
@@ -26,47 +26,28 @@ struct Opening {
     len: usize,
 }
 
-// What an ampersand opens: a reference; or none, and none begins within so many bytes.
-#[derive(Clone, Copy)]
-enum Front {
-    Reference,
-    Bare(usize),
-}
-
 fn is_of(kind: Kind, b: u8) -> bool
     ensures { result ≡ is_of kind b }
 {
-    let digit = (b'0' <= b) & (b <= b'9');
     match kind {
-        Kind::Name => digit | ((b'A' <= b) & (b <= b'Z')) | ((b'a' <= b) & (b <= b'z')),
-        Kind::Decimal => digit,
-        Kind::Hexadecimal => digit | ((b'A' <= b) & (b <= b'F')) | ((b'a' <= b) & (b <= b'f')),
+        Kind::Name => b.is_ascii_alphanumeric(),
+        Kind::Decimal => b.is_ascii_digit(),
+        Kind::Hexadecimal => b.is_ascii_hexdigit(),
     }
 }
 
-// Where the bytes of this kind end that stand from a place on.
-fn run_end(s: &[u8], from: usize, kind: Kind) -> usize
-    requires { from ≤ length s.now }
-    ensures { result ≡ from + run kind (drop from s.now) }
+// How many bytes of this kind stand at the front.
+fn run(s: &[u8], kind: Kind) -> usize
+    ensures { result ≡ run kind s.now }
 {
-    let mut i = from;
-    while i < s.len() {
-        if !is_of(kind, s[i]) {
-            return i;
-        }
-        i += 1;
-    }
-    i
+    s.iter().take_while(|b| is_of(kind, **b)).count()
 }
 
 // Whether the byte at place i is `b`.
 fn is_at(s: &[u8], i: usize, b: u8) -> bool
     ensures { result ≡ begins (b ∷ []) (drop i s.now) }
 {
-    if i < s.len() {
-        return s[i] == b;
-    }
-    false
+    s.get(i) == Some(&b)
 }
 
 // Digits behind n bytes, or behind the plus sign that follows these.
@@ -98,63 +79,54 @@ fn opening_at(s: &[u8]) -> Opening
     behind_plus(s, 2, Kind::Decimal)
 }
 
-// What the ampersand at the front opens. Where it opens nothing, what was looked at has no other ampersand, and need not be looked at again.
-fn front_of(s: &[u8]) -> Front
+// From the ampersand at the front, within how many bytes no reference begins: what was looked at has no other ampersand, and need not be looked at again. None where it opens a
+// reference.
+fn bare_front(s: &[u8]) -> Option<usize>
     requires { begins (ascii "&") s.now ≡ true }
     ensures { Fronts s.now result }
 {
     let opening = opening_at(s);
-    let kind = opening.kind;
     let start = opening.len;
-    let end = run_end(s, start, kind);
+    let end = start + run(&s[start..], opening.kind);
     if end == start {
-        return Front::Bare(end);
+        return Some(end);
     }
     if is_at(s, end, b';') {
-        return Front::Reference;
+        return None;
     }
-    Front::Bare(end)
+    Some(end)
 }
 
 // The place of the next ampersand. Where they stand side by side, none of them pays for a block of the search.
-fn find_ampersand(s: &[u8]) -> Found
+fn find_ampersand(s: &[u8]) -> Option<usize>
     ensures { result ≡ find (eqb 0x26) s.now }
 {
     if is_at(s, 0, b'&') {
-        return Found::At(0);
+        return Some(0);
     }
     find_byte(s, b'&')
 }
 
-// Whether a reference stands from a place on. What an ampersand that opens none was followed by is passed, so the cost is linear in the text.
-fn has_reference_from(s: &[u8], from: usize) -> bool
-    requires { from ≤ length s.now }
-    ensures { result ≡ has_reference (drop from s.now) }
+// Whether a reference stands in `s`. What an ampersand that opens none was followed by is passed, so the cost is linear in the text.
+fn has_reference_within(s: &[u8]) -> bool
+    ensures { result ≡ has_reference s.now }
 {
-    let mut i = from;
-    loop {
-        let Found::At(n) = find_ampersand(&s[i..]) else {
-            return false;
+    let mut rest = s;
+    while let Some(sign) = find_ampersand(rest) {
+        let Some(bare) = bare_front(&rest[sign..]) else {
+            return true;
         };
-        let sign = i + n;
-        let front = front_of(&s[sign..]);
-        match front {
-            Front::Reference => {
-                return true;
-            }
-            Front::Bare(m) => {
-                i = sign + m;
-            }
-        }
+        rest = &rest[sign + bare..];
     }
+    false
 }
 
 // Whether a reference stands in `s`. Most texts have no ampersand: those cost one search.
 pub fn has_reference(s: &[u8]) -> bool
     ensures { result ≡ has_reference s.now }
 {
-    let Found::At(sign) = find_byte(s, b'&') else {
+    let Some(sign) = find_byte(s, b'&') else {
         return false;
     };
-    has_reference_from(s, sign)
+    has_reference_within(&s[sign..])
 }

@@ -11,7 +11,7 @@ mod openings;
 mod reading;
 mod showing;
 
-use definitions::state::{Answer, State, Written};
+use definitions::state::State;
 use files::CANNOT_WRITE;
 use lowering::lower_root;
 use openings::show_settings;
@@ -53,8 +53,8 @@ fn replay_root(
     say(out, b"root ")?;
     say_number(out, number)?;
     match answer {
-        Answer::Refused(why) => say_refused(out, why)?,
-        Answer::Accepted => {
+        Err(why) => say_refused(out, why)?,
+        Ok(()) => {
             say(out, b" accepted\n")?;
             show_part(out, b"calls", calls, before.calls, after.calls)?;
             show_part(out, b"notices", notices, before.notices, after.notices)?;
@@ -93,11 +93,11 @@ fn show_records(out: &mut impl Write, text: &[u8], state: State) -> Result<()> {
     let mut target = [0u8; 4096];
     let written = write_records(text, state, &mut target);
     match written {
-        Written::Refused(why) => {
+        Err(why) => {
             say(out, b"records")?;
             say_refused(out, why)
         }
-        Written::Accepted(size) => show_part(out, b"records", &target, 0, size),
+        Ok(size) => show_part(out, b"records", &target, 0, size),
     }
 }
 
@@ -136,12 +136,12 @@ fn replay_job(
     let state = opened.state;
     say(out, b"opening")?;
     match answer {
-        Answer::Refused(why) => {
+        Err(why) => {
             say_refused(out, why)?;
             pass_roots(input, count, tape);
             Ok(())
         }
-        Answer::Accepted => {
+        Ok(()) => {
             let settings = state.settings;
             show_settings(out, text, settings)?;
             show_told(out, notices, state.notices)?;

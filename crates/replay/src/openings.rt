@@ -1,8 +1,8 @@
 // The settings of a job that was opened, in words.
 use crate::showing::{say, say_hex, say_number};
-use definitions::options::{Flags, Form, Mode, Optional, PragmaRoot, Settings};
+use definitions::options::{Flags, Form, Mode, PragmaRoot, Settings};
 use std::io::{Result, Write};
-use text::spans::part;
+use text::spans::{Span, part};
 
 fn say_mode(out: &mut impl Write, mode: Mode) -> Result<()> {
     match mode {
@@ -30,10 +30,10 @@ fn say_flags(out: &mut impl Write, flags: Flags, pure: bool) -> Result<()> {
 }
 
 // A part of the text behind a quote, or that there is none.
-fn say_value(out: &mut impl Write, text: &[u8], value: Optional) -> Result<()> {
+fn say_value(out: &mut impl Write, text: &[u8], value: Option<Span>) -> Result<()> {
     match value {
-        Optional::Absent => say(out, b" -"),
-        Optional::Present(span) => {
+        None => say(out, b" -"),
+        Some(span) => {
             say(out, b" '")?;
             say_hex(out, part(text, span))
         }

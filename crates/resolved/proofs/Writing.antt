@@ -2,6 +2,7 @@
 --     crowded_by, roomy_by             refusal 10, and a target with room, where the size was measured
 --     source_size                      the text of a source is measured right
 -- Assumes nothing.
+use Rattle.std.specs.Prelude.{Err, None, Ok, Option, Some}
 use mathlib.Core.Path.{◌≡◌, ◌∙◌}
 use mathlib.Core.Bool.{Bool, true, false, cond}
 use mathlib.Core.List.{List, [], ◌∷◌, ◌++◌}
@@ -14,10 +15,7 @@ use Rattle.text.specs.Spans.{part_of}
 use Rattle.tape.specs.declared.refusal.Refusal.TheVariants as refusal
 use Rattle.tape.specs.Targets.{Wrote}
 use Rattle.tape.proofs.Targets.{sets_room}
-use Rattle.definitions.specs.declared.options.Optional.{Optional}
-use Rattle.definitions.specs.declared.options.Optional.TheVariants.{Absent, Present}
 use Rattle.definitions.specs.declared.options.Options.{Options}
-use Rattle.definitions.specs.declared.state.Written.TheVariants as written
 use Rattle.definitions.specs.Opening.{or_react, import_source, runtime_source}
 use Rattle.definitions.specs.Entries.{laid, judge_tape}
 use Rattle.records.proofs.Writing.{Comes, crowded, roomy}
@@ -25,11 +23,11 @@ use Rattle.resolved.specs.Resolved.{runtime_path, source_text}
 
 -- ---- the room
 
-pub crowded_by : (t o : List ℕ) {size : ℕ} → size ≡ length t → length o < size → Comes (judge_tape t (length o)) (written.Refused (refusal.Space size)) o o
+pub crowded_by : (t o : List ℕ) {size : ℕ} → size ≡ length t → length o < size → Comes (judge_tape t (length o)) (Err (refusal.Space size)) o o
 crowded_by t o e h = rw e (crowded t o (omega (arith, h, e)))
 
 pub roomy_by : (t o : List ℕ) {o' : List ℕ} {size r : ℕ} → size ≡ length t → size ≤ length o → Wrote o o' 0 r t
-    → Comes (judge_tape t (length o)) (written.Accepted size) o o'
+    → Comes (judge_tape t (length o)) (Ok size) o o'
 unfolding laid
 roomy_by t o e h w =
     let l : length t ≤ length o = omega (arith, h, e) in
@@ -46,10 +44,10 @@ unfolding or_react
 or_react_length [] = omega arith
 or_react_length (b ∷ l) = omega arith
 
-import_length : (text : List ℕ) (p : Optional) → length (import_source text p) ≤ length text + 5
+import_length : (text : List ℕ) (p : Option Span) → length (import_source text p) ≤ length text + 5
 unfolding import_source
-import_length text Absent = omega arith
-import_length text (Present s) = omega (arith, or_react_length (part_of text s), part_length text s)
+import_length text None = omega arith
+import_length text (Some s) = omega (arith, or_react_length (part_of text s), part_length text s)
 
 path_length : (d : Bool) → length (runtime_path d) ≤ 16
 path_length true = omega arith

@@ -10,15 +10,15 @@ ghost use Rattle.definitions.specs.Opening.{or_react, import_source, runtime_sou
 ghost use Rattle.tape.specs.Targets.{Wrote};
 ghost use Rattle.resolved.specs.Resolved.{runtime_path, source_text, judge_source, judge_settings};
 
-use definitions::options::{Optional, Options};
+use definitions::options::Options;
 use definitions::records::IMPORT_SOURCE;
-use definitions::state::{Answer, State, Written};
+use definitions::state::State;
 use packing::layout::SETTINGS_SIZE;
 use packing::writing::put_settings;
 use store::judging::judge_state;
 use tape::refusal::Refusal;
 use tape::target::put_slice;
-use text::spans::part;
+use text::spans::{Span, part};
 
 // ---- the sources of imports
 
@@ -34,13 +34,13 @@ fn put_or_react(name: &[u8], out: &mut [u8], at: usize) -> usize
 }
 
 // The import source, from a place of the target on.
-pub fn put_import_source(text: &[u8], setting: Optional, out: &mut [u8], at: usize) -> usize
+pub fn put_import_source(text: &[u8], setting: Option<Span>, out: &mut [u8], at: usize) -> usize
     requires { at ≤ 2 ^ 63 }
     ensures { Wrote out.old out.new at result (import_source text.now setting) }
 {
     match setting {
-        Optional::Absent => put_slice(out, at, b"react"),
-        Optional::Present(span) => put_or_react(part(text, span), out, at),
+        None => put_slice(out, at, b"react"),
+        Some(span) => put_or_react(part(text, span), out, at),
     }
 }
 
@@ -59,9 +59,8 @@ pub fn put_runtime_source(text: &[u8], options: Options, out: &mut [u8], at: usi
     requires { at ≤ 2 ^ 63 }
     ensures { Wrote out.old out.new at result (runtime_source text.now options) }
 {
-    let setting = options.import_source;
     let development = options.flags.development;
-    let named = put_import_source(text, setting, out, at);
+    let named = put_import_source(text, options.import_source, out, at);
     put_runtime_path(development, out, named)
 }
 
@@ -69,8 +68,7 @@ fn put_source(text: &[u8], options: Options, source: u8, out: &mut [u8]) -> usiz
     ensures { Wrote out.old out.new 0 result (source_text text.now options source) }
 {
     if source == IMPORT_SOURCE {
-        let setting = options.import_source;
-        return put_import_source(text, setting, out, 0);
+        return put_import_source(text, options.import_source, out, 0);
     }
     put_runtime_source(text, options, out, 0)
 }
@@ -78,7 +76,12 @@ fn put_source(text: &[u8], options: Options, source: u8, out: &mut [u8]) -> usiz
 // ---- the entries
 
 // The source where there is room for it: it is measured first.
-fn write_fitting(text: &[u8], options: Options, source: u8, target: &mut [u8]) -> Written
+fn write_fitting(
+    text: &[u8],
+    options: Options,
+    source: u8,
+    target: &mut [u8],
+) -> Result<usize, Refusal>
     requires { length text.now ≤ 65535 }
     ensures value { result ≡ records_answer (judge_tape (source_text text.now options source) (length target.old)) }
     ensures target_after { target.new ≡ records_target target.old (judge_tape (source_text text.now options source) (length target.old)) }
@@ -86,41 +89,35 @@ fn write_fitting(text: &[u8], options: Options, source: u8, target: &mut [u8]) -
     let mut spare = [0u8; 1];
     let size = put_source(text, options, source, &mut spare);
     if target.len() < size {
-        return Written::Refused(Refusal::Space(size));
+        return Err(Refusal::Space(size));
     }
     put_source(text, options, source, target);
-    Written::Accepted(size)
+    Ok(size)
 }
 
 // The text of the source that a B0 names, 0 the import source and any other number the runtime source, at the front of the target.
-pub fn write_source(text: &[u8], state: State, source: u8, target: &mut [u8]) -> Written
+pub fn write_source(
+    text: &[u8],
+    state: State,
+    source: u8,
+    target: &mut [u8],
+) -> Result<usize, Refusal>
     ensures value { result ≡ records_answer (judge_source text.now state source (length target.old)) }
     ensures target_after { target.new ≡ records_target target.old (judge_source text.now state source (length target.old)) }
 {
-    match judge_state(text, state) {
-        Answer::Refused(refusal) => Written::Refused(refusal),
-        Answer::Accepted => {
-            let settings = state.settings;
-            let options = settings.options;
-            write_fitting(text, options, source, target)
-        }
-    }
+    judge_state(text, state)?;
+    write_fitting(text, state.settings.options, source, target)
 }
 
 // The settings' bytes at the front of the target.
-pub fn write_settings(text: &[u8], state: State, target: &mut [u8]) -> Written
+pub fn write_settings(text: &[u8], state: State, target: &mut [u8]) -> Result<usize, Refusal>
     ensures value { result ≡ records_answer (judge_settings text.now state (length target.old)) }
     ensures target_after { target.new ≡ records_target target.old (judge_settings text.now state (length target.old)) }
 {
-    match judge_state(text, state) {
-        Answer::Refused(refusal) => Written::Refused(refusal),
-        Answer::Accepted => {
-            if target.len() < SETTINGS_SIZE {
-                return Written::Refused(Refusal::Space(SETTINGS_SIZE));
-            }
-            let settings = state.settings;
-            put_settings(settings, target);
-            Written::Accepted(SETTINGS_SIZE)
-        }
+    judge_state(text, state)?;
+    if target.len() < SETTINGS_SIZE {
+        return Err(Refusal::Space(SETTINGS_SIZE));
     }
+    put_settings(state.settings, target);
+    Ok(SETTINGS_SIZE)
 }

@@ -2,8 +2,8 @@ pub mod Scans
 pub mod Readings
 pub mod Behind
 pub mod Loops
-pub mod Firsts
 pub mod Commands
+pub mod Firsts
 pub mod Entry
 pub mod Codes
 pub mod Walking

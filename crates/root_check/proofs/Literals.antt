@@ -9,11 +9,13 @@ use Prim.Native.Nat.{ℕ, zero, suc, ◌+◌, ◌-◌, ◌≤◌, ◌<◌}
 use native.Mathlib.Nat.{zero-add, add_assoc}
 use native.Mathlib.Numerals.{sub-one}
 use native.Mathlib.Omega.{arith}
+use Rattle.std.specs.Prelude.{Result, Ok, Err}
 use lib.ListN.{length, drop, length-drop}
 use lib.Seq.{drop-drop}
 use Rattle.text.proofs.Lists.{tail_part}
 use Rattle.text.specs.declared.spans.Span.{Span}
 use Rattle.text.specs.Spans.{bounds_of}
+use Rattle.commands.specs.declared.error.CommandError.{CommandError}
 use Rattle.commands.specs.declared.root.PropertyCommand.{PropertyCommand}
 use Rattle.commands.specs.declared.root.PropertyCommand.TheVariants as properties
 use Rattle.commands.specs.Root.{property_command}
@@ -29,18 +31,17 @@ use Rattle.root_check.proofs.Behind.{part}
 -- ---- how far they reach
 
 -- by the command in front, in turns enough
-turn : (f : ℕ) (t : List ℕ) {c : PropertyCommand} → property_command t ≡ c → length t ≤ f
+turn : (f : ℕ) (t : List ℕ) {c : Result PropertyCommand CommandError} → property_command t ≡ c → length t ≤ f
     → properties_passed_in f t ≡ properties_passed_by c (λ n. properties_passed_in (f - 1) (drop n t))
 unfolding properties_passed_in properties_passed_by
 turn (suc f) t e h = rw (e, sub-one (suc f)) refl
 turn zero t {c} e h = none c (omega (arith, property_fits t e))
   where
-    none : (c : PropertyCommand) → property_size c ≤ 0 → 0 ≡ properties_passed_by c (λ n. properties_passed_in (zero - 1) (drop n t))
-    none properties.Wrong k = refl
-    none properties.Cut k = refl
-    none properties.End k = absurd (omega arith)
-    none (properties.Property e) k = absurd (omega arith)
-    none (properties.Named e s) k = absurd (omega arith)
+    none : (c : Result PropertyCommand CommandError) → property_size c ≤ 0 → 0 ≡ properties_passed_by c (λ n. properties_passed_in (zero - 1) (drop n t))
+    none (Err x) k = refl
+    none (Ok properties.End) k = absurd (omega arith)
+    none (Ok (properties.Property e)) k = absurd (omega arith)
+    none (Ok (properties.Named e s)) k = absurd (omega arith)
 
 -- what is read is what is passed
 properties_read : (f g : ℕ) (text t : List ℕ) → length t ≤ g → Told (λ ps u. properties_passed_in g t ≡ u) (properties_at f text t)
@@ -49,15 +50,14 @@ properties_read zero g text t h = faults
 properties_read (suc f) g text t h =
     by (property_command t) refl (λ n k. properties_read f (g - 1) text (drop n t) k)
   where
-    by : (c : PropertyCommand) → property_command t ≡ c
+    by : (c : Result PropertyCommand CommandError) → property_command t ≡ c
         → ((n : ℕ) → length (drop n t) ≤ g - 1 → Told (λ ps u. properties_passed_in (g - 1) (drop n t) ≡ u) (properties_at f text (drop n t)))
         → Told (λ ps u. properties_passed_in g t ≡ u) (properties_by text t c (λ u. from u (properties_at f text (drop u t))))
-    by properties.Wrong e ih = faults
-    by properties.Cut e ih = faults
-    by properties.End e ih = tells (turn g t e h)
-    by (properties.Property x) e ih =
+    by (Err x) e ih = faults
+    by (Ok properties.End) e ih = tells (turn g t e h)
+    by (Ok (properties.Property x)) e ih =
         told_map (unnamed x ∷◌) (told_from 3 (ih 3 (omega (arith, length-drop 3 t))) (λ a v k. turn g t e h ∙ ap (λ (w : ℕ). 3 + w) k)) (λ a u k. k)
-    by (properties.Named x s) e ih =
+    by (Ok (properties.Named x s)) e ih =
         told_spanned (bounds_of text s)
         (told_map (prop_name x s ∷◌) (told_from 7 (ih 7 (omega (arith, length-drop 7 t))) (λ a v k. turn g t e h ∙ ap (λ (w : ℕ). 7 + w) k)) (λ a u k. k))
 
@@ -66,13 +66,12 @@ unfolding properties_passed_in properties_passed_by
 properties_within zero t = omega arith
 properties_within (suc f) t = by (property_command t) refl (λ n. properties_within f (drop n t))
   where
-    by : (c : PropertyCommand) → property_command t ≡ c → ((n : ℕ) → properties_passed_in f (drop n t) ≤ length (drop n t))
+    by : (c : Result PropertyCommand CommandError) → property_command t ≡ c → ((n : ℕ) → properties_passed_in f (drop n t) ≤ length (drop n t))
         → properties_passed_by c (λ n. properties_passed_in f (drop n t)) ≤ length t
-    by properties.Wrong e ih = omega arith
-    by properties.Cut e ih = omega arith
-    by properties.End e ih = omega (arith, property_fits t e)
-    by (properties.Property x) e ih = omega (arith, property_fits t e, ih 3, length-drop 3 t)
-    by (properties.Named x s) e ih = omega (arith, property_fits t e, ih 7, length-drop 7 t)
+    by (Err x) e ih = omega arith
+    by (Ok properties.End) e ih = omega (arith, property_fits t e)
+    by (Ok (properties.Property x)) e ih = omega (arith, property_fits t e, ih 3, length-drop 3 t)
+    by (Ok (properties.Named x s)) e ih = omega (arith, property_fits t e, ih 7, length-drop 7 t)
 
 pub properties_skipped : (tape : List ℕ) {r : ℕ} → r ≡ properties_passed tape
     → (r ≤ length tape)
@@ -96,7 +95,7 @@ properties_left_all tape = record { turns = length tape; enough = omega arith; s
 
 module _ {tape : List ℕ} {i : ℕ} (P : PropertiesLeft tape i) where
   -- by the command that stands there
-  left_by : {c : PropertyCommand} → property_command (part i tape) ≡ c
+  left_by : {c : Result PropertyCommand CommandError} → property_command (part i tape) ≡ c
       → properties_passed tape ≡ i + properties_passed_by c (λ n. properties_passed_in (P.turns - 1) (drop n (drop i tape)))
   left_by e =
       let x : property_command (drop i tape) ≡ _ = rw (tail_part tape i) at e in
@@ -110,28 +109,24 @@ module _ {tape : List ℕ} {i : ℕ} (P : PropertiesLeft tape i) where
     same = e ∙ sym (add_assoc i n _) ∙ ap (λ (l : List ℕ). i + n + properties_passed_in (P.turns - 1) l) (drop-drop n i tape);
   }
 
-  pub properties_left_property : (x : ℕ) → property_command (part i tape) ≡ properties.Property x → PropertiesLeft tape (i + 3)
+  pub properties_left_property : (x : ℕ) → property_command (part i tape) ≡ Ok (properties.Property x) → PropertiesLeft tape (i + 3)
   unfolding properties_passed_by
   properties_left_property x e = left_on 3 (omega arith) (left_by e)
 
-  pub properties_left_named : (x : ℕ) (s : Span) → property_command (part i tape) ≡ properties.Named x s → PropertiesLeft tape (i + 7)
+  pub properties_left_named : (x : ℕ) (s : Span) → property_command (part i tape) ≡ Ok (properties.Named x s) → PropertiesLeft tape (i + 7)
   unfolding properties_passed_by
   properties_left_named x s e = left_on 7 (omega arith) (left_by e)
 
-  pub properties_left_end : property_command (part i tape) ≡ properties.End → i + 1 ≡ properties_passed tape
+  pub properties_left_end : property_command (part i tape) ≡ Ok properties.End → i + 1 ≡ properties_passed tape
   unfolding properties_passed_by
   properties_left_end e = sym (left_by e)
 
-  pub properties_left_wrong : property_command (part i tape) ≡ properties.Wrong → i ≡ properties_passed tape
+  pub properties_left_none : {x : CommandError} → property_command (part i tape) ≡ Err x → i ≡ properties_passed tape
   unfolding properties_passed_by
-  properties_left_wrong e = omega (arith, left_by e)
-
-  pub properties_left_cut : property_command (part i tape) ≡ properties.Cut → i ≡ properties_passed tape
-  unfolding properties_passed_by
-  properties_left_cut e = omega (arith, left_by e)
+  properties_left_none e = omega (arith, left_by e)
 
 -- how much of the tape is left for what stands there
-pub property_room : (tape : List ℕ) (i : ℕ) {c : PropertyCommand} → i ≤ length tape → property_command (part i tape) ≡ c → i + property_size c ≤ length tape
+pub property_room : (tape : List ℕ) (i : ℕ) {c : Result PropertyCommand CommandError} → i ≤ length tape → property_command (part i tape) ≡ c → i + property_size c ≤ length tape
 property_room tape i h e =
     let x : property_command (drop i tape) ≡ _ = rw (tail_part tape i) at e in
     omega (arith, property_fits (drop i tape) x, length-drop i tape)

@@ -13,6 +13,7 @@ use native.Mathlib.Omega.{arith}
 use lib.ListN.{length, drop, length-drop}
 use lib.Dec.{eqb, leb, ltb}
 use borrow.Author.Tests.{eq-eqb, ltb-false}
+use Rattle.std.specs.Prelude.{Option, Some, None, Result, Ok, Err}
 use Rattle.text.specs.declared.spans.Span.{Span}
 use Rattle.text.specs.declared.spans.Bounds.{Bounds}
 use Rattle.text.specs.declared.spans.Bounds.TheVariants.{Outside, Cuts, Empty, Good}
@@ -20,15 +21,13 @@ use Rattle.text.specs.Spans.{part_of, bounds_of}
 use Rattle.references.specs.References.{has_reference}
 use Rattle.tape.specs.declared.refusal.Fault.{Fault}
 use Rattle.tape.specs.declared.refusal.Fault.TheVariants as fault
+use Rattle.commands.specs.declared.error.CommandError.{CommandError}
+use Rattle.commands.specs.declared.error.CommandError.TheVariants as command
 use Rattle.commands.specs.declared.root.Place.{Place}
-use Rattle.commands.specs.declared.root.HeritageCommand.{HeritageCommand}
-use Rattle.commands.specs.declared.root.HeritageCommand.TheVariants as heritages
 use Rattle.commands.specs.declared.root.ScopeCommand.{ScopeCommand}
 use Rattle.commands.specs.declared.root.ScopeCommand.TheVariants as scopes
 use Rattle.commands.specs.declared.root.NameCommand.{NameCommand}
 use Rattle.commands.specs.declared.root.NameCommand.TheVariants as names
-use Rattle.commands.specs.declared.root.MemberCommand.{MemberCommand}
-use Rattle.commands.specs.declared.root.MemberCommand.TheVariants as members
 use Rattle.commands.specs.declared.root.AttributeCommand.{AttributeCommand}
 use Rattle.commands.specs.declared.root.AttributeCommand.TheVariants as attributes
 use Rattle.commands.specs.declared.root.PropertyCommand.{PropertyCommand}
@@ -39,15 +38,14 @@ use Rattle.commands.specs.declared.root.ChildCommand.{ChildCommand}
 use Rattle.commands.specs.declared.root.ChildCommand.TheVariants as children
 use Rattle.commands.specs.Root.{heritage_command, scope_command, name_command, member_command, attribute_command, property_command, value_command, child_command}
 use Rattle.commands.proofs.Lengths.{heritage_fits, scope_fits, name_fits, member_fits, attribute_fits, property_fits, value_fits, child_fits}
-use Rattle.definitions.specs.Judging.{Parsed, done, stop, ◌then◌, map, from, spanned, named, worse}
+use Rattle.definitions.specs.Judging.{Parsed, done, stop, ◌then◌, map, from, error_place, unreadable, spanned, named, worse}
 use Rattle.definitions.specs.Tree.{identifier, this, Property, unnamed, prop_name, Node, element, fragment, Attributes, attribute}
 use Rattle.definitions.specs.Tree.{namespaced_attribute, spread, literal, Value, node_value, Children, text_child, expression_child, empty_child}
 use Rattle.definitions.specs.Tree.{spread_child, node_child, Root}
 use Rattle.definitions.specs.Reading.{lettered, opened, members_by, name_by, properties_by, attributes_by, value_by, children_by, scopes_by}
 use Rattle.definitions.specs.Reading.{root_by, members_at, name_at, properties_at, element_at, fragment_at, attributes_at, value_at, children_at, scopes_at}
 use Rattle.definitions.specs.Reading.{is_function, Scoped, in_scope, unscoped, whole, read_root}
-use Rattle.root_check.specs.declared.check.Scan.{Scan}
-use Rattle.root_check.specs.Checking.{report, Within}
+use Rattle.root_check.specs.Checking.{Scan, report, Within}
 use Rattle.root_check.specs.InOrder.{NameSpan, Inside, Lettered, Placed, Each, NameInOrder, PropertyInOrder, InOrder, AttributesInOrder, ValueInOrder, ChildrenInOrder}
 
 -- Read off a part of len bytes: a tree with the property Q that takes m of them at least, or a fault that lies within the part.
@@ -72,12 +70,18 @@ module _ {A : Type 0} {Q : A → Type 0} {m len : ℕ} where
 
 -- ---- readings put together
 
+pub unread_within : (t : List ℕ) (e : CommandError) → error_place t e ≤ length t
+unread_within t command.Wrong = omega arith
+unread_within t command.Cut = omega arith
+unread_within t command.Bad = omega arith
+
 module _ {A : Type 0} {Q : A → Type 0} where
   here : {m len : ℕ} {f : Fault} → Reads Q m len (stop f 0)
   here = faults {p = 0} (omega arith)
 
-  end : {m len : ℕ} {f : Fault} → Reads Q m len (stop f len)
-  end {len} = faults {p = len} (omega arith)
+  -- a command that can't be read
+  unread : {m : ℕ} (t : List ℕ) (e : CommandError) → Reads Q m (length t) (unreadable t e)
+  unread t e = faults {p = error_place t e} (unread_within t e)
 
   pub less : (m : ℕ) {k len : ℕ} {p : Parsed A} → m ≤ k → Reads Q k len p → Reads Q m len p
   less m h (reads {u} q i j) = reads {u = u} q (omega arith) j
@@ -169,34 +173,32 @@ abbrev Next : {A : Type 0} → (A → Type 0) → ℕ → List ℕ → (ℕ → 
 Next Q m t next = (u : ℕ) → u ≤ length t → Reads Q (u + m) (length t) (next u)
 
 module _ (text t : List ℕ) where
-  members_by_command : (c : MemberCommand) (next : ℕ → Parsed (List Span)) → member_command t ≡ c → Next (Each (NameSpan text)) 0 t next
+  members_by_command : (c : Result (Option Span) CommandError) (next : ℕ → Parsed (List Span)) → member_command t ≡ c → Next (Each (NameSpan text)) 0 t next
       → Reads (Each (NameSpan text)) 0 (length t) (members_by text t c next)
   unfolding members_by Each
-  members_by_command members.Other next e f = reads {u = 0} tt (omega arith) (omega arith)
-  members_by_command members.Cut next e f = end
-  members_by_command (members.Member s) next e f =
+  members_by_command (Ok None) next e f = reads {u = 0} tt (omega arith) (omega arith)
+  members_by_command (Err x) next e f = unread t x
+  members_by_command (Ok (Some s)) next e f =
       named_reads _ (λ g. map_reads (s ∷◌) (λ l h. (g, h)) (less 0 (omega arith) (f 5 (member_fits t e))))
 
-  name_by_command : (c : NameCommand) (next : ℕ → Parsed (List Span)) → name_command t ≡ c → Next (Each (NameSpan text)) 0 t next
+  name_by_command : (c : Result NameCommand CommandError) (next : ℕ → Parsed (List Span)) → name_command t ≡ c → Next (Each (NameSpan text)) 0 t next
       → Reads (NameInOrder text) 1 (length t) (name_by text t c next)
   unfolding name_by NameInOrder
-  name_by_command names.Wrong next e f = here
-  name_by_command names.Cut next e f = end
-  name_by_command (names.Plain s) next e f = named_reads _ (λ g. reads {u = 5} g (omega arith) (name_fits t e))
-  name_by_command (names.Identifier s) next e f =
+  name_by_command (Err x) next e f = unread t x
+  name_by_command (Ok (names.Plain s)) next e f = named_reads _ (λ g. reads {u = 5} g (omega arith) (name_fits t e))
+  name_by_command (Ok (names.Identifier s)) next e f =
       named_reads _ (λ g. map_reads (identifier s) (λ l h. (g, h)) (less 1 (omega arith) (f 5 (name_fits t e))))
-  name_by_command names.This next e f = map_reads this (λ l h. h) (less 1 (omega arith) (f 1 (name_fits t e)))
-  name_by_command (names.Namespaced s r) next e f = named_reads _ (λ g. reads {u = 9} (worse_good _ _ g) (omega arith) (name_fits t e))
+  name_by_command (Ok names.This) next e f = map_reads this (λ l h. h) (less 1 (omega arith) (f 1 (name_fits t e)))
+  name_by_command (Ok (names.Namespaced s r)) next e f = named_reads _ (λ g. reads {u = 9} (worse_good _ _ g) (omega arith) (name_fits t e))
 
-  properties_by_command : (c : PropertyCommand) (next : ℕ → Parsed (List Property)) → property_command t ≡ c → Next (Each (PropertyInOrder text)) 1 t next
+  properties_by_command : (c : Result PropertyCommand CommandError) (next : ℕ → Parsed (List Property)) → property_command t ≡ c → Next (Each (PropertyInOrder text)) 1 t next
       → Reads (Each (PropertyInOrder text)) 1 (length t) (properties_by text t c next)
   unfolding properties_by Each PropertyInOrder
-  properties_by_command properties.Wrong next e f = here
-  properties_by_command properties.Cut next e f = end
-  properties_by_command properties.End next e f = reads {u = 1} tt (omega arith) (property_fits t e)
-  properties_by_command (properties.Property x) next e f =
+  properties_by_command (Err x) next e f = unread t x
+  properties_by_command (Ok properties.End) next e f = reads {u = 1} tt (omega arith) (property_fits t e)
+  properties_by_command (Ok (properties.Property x)) next e f =
       map_reads (unnamed x ∷◌) (λ l h. (tt, h)) (less 1 (omega arith) (f 3 (property_fits t e)))
-  properties_by_command (properties.Named x s) next e f =
+  properties_by_command (Ok (properties.Named x s)) next e f =
       spanned_reads text s (λ i. map_reads (prop_name x s ∷◌) (λ l h. (i, h)) (less 1 (omega arith) (f 7 (property_fits t e))))
 
 pub members_reads : (f : ℕ) (text t : List ℕ) → Reads (Each (NameSpan text)) 0 (length t) (members_at f text t)
@@ -216,59 +218,56 @@ properties_reads (suc f) text t = properties_by_command text t _ _ refl (λ u h.
 -- ---- elements and fragments
 
 module _ (text t : List ℕ) where
-  attributes_by_command : (c : AttributeCommand) (value : ℕ → Parsed Value) (props : ℕ → Parsed (List Property)) (next : ℕ → Parsed Attributes)
+  attributes_by_command : (c : Result AttributeCommand CommandError) (value : ℕ → Parsed Value) (props : ℕ → Parsed (List Property)) (next : ℕ → Parsed Attributes)
       → attribute_command t ≡ c
       → Next (ValueInOrder text) 1 t value → Next (Each (PropertyInOrder text)) 1 t props → Next (AttributesInOrder text) 1 t next
       → Reads (AttributesInOrder text) 1 (length t) (attributes_by text t c value props next)
   unfolding attributes_by AttributesInOrder
-  attributes_by_command attributes.Wrong value props next e v ps f = here
-  attributes_by_command attributes.Cut value props next e v ps f = end
-  attributes_by_command attributes.End value props next e v ps f = reads {u = 1} tt (omega arith) (attribute_fits t e)
-  attributes_by_command (attributes.Plain s) value props next e v ps f =
+  attributes_by_command (Err x) value props next e v ps f = unread t x
+  attributes_by_command (Ok attributes.End) value props next e v ps f = reads {u = 1} tt (omega arith) (attribute_fits t e)
+  attributes_by_command (Ok (attributes.Plain s)) value props next e v ps f =
       named_reads _ (λ g. then_reads _ (v 5 (attribute_fits t e))
       (λ x u q h k. map_reads (attribute s x) (λ a i. (g, q, i)) (less 1 (omega arith) (f u k))))
-  attributes_by_command (attributes.Namespaced s r) value props next e v ps f =
+  attributes_by_command (Ok (attributes.Namespaced s r)) value props next e v ps f =
       named_reads _ (λ g. then_reads _ (v 9 (attribute_fits t e))
       (λ x u q h k. map_reads (namespaced_attribute s r x) (λ a i. ((worse_good _ _ g).0, (worse_good _ _ g).1, q, i)) (less 1 (omega arith) (f u k))))
-  attributes_by_command (attributes.Spread x) value props next e v ps f =
+  attributes_by_command (Ok (attributes.Spread x)) value props next e v ps f =
       map_reads (spread x) (λ a i. i) (less 1 (omega arith) (f 3 (attribute_fits t e)))
-  attributes_by_command (attributes.Literal x) value props next e v ps f =
+  attributes_by_command (Ok (attributes.Literal x)) value props next e v ps f =
       then_reads _ (ps 3 (attribute_fits t e)) (λ l u q h k. map_reads (literal x l) (λ a i. (q, i)) (less 1 (omega arith) (f u k)))
 
   -- the rest of an element or a fragment that stands at the front of t
   abbrev Inner : (Place → Parsed Node) → Type 0
   Inner node = (p : Place) → Placed p → Reads (InOrder text) 0 (length (drop 9 t)) (node p)
 
-  value_by_command : (d : ℕ) (c : ValueCommand) (whole bare : Place → Parsed Node) → value_command t ≡ c → Inner whole → Inner bare
+  value_by_command : (d : ℕ) (c : Result ValueCommand CommandError) (whole bare : Place → Parsed Node) → value_command t ≡ c → Inner whole → Inner bare
       → Reads (ValueInOrder text) 1 (length t) (value_by text d t c whole bare)
   unfolding value_by ValueInOrder
-  value_by_command d values.Wrong whole bare e w b = here
-  value_by_command d values.Cut whole bare e w b = end
-  value_by_command d values.Absent whole bare e w b = reads {u = 1} tt (omega arith) (value_fits t e)
-  value_by_command d (values.Text s) whole bare e w b = lettered_reads text s (λ l. reads {u = 5} l (omega arith) (value_fits t e))
-  value_by_command d (values.Expression x) whole bare e w b = reads {u = 3} tt (omega arith) (value_fits t e)
-  value_by_command d values.Empty whole bare e w b = reads {u = 1} tt (omega arith) (value_fits t e)
-  value_by_command d (values.Element p) whole bare e w b =
+  value_by_command d (Err x) whole bare e w b = unread t x
+  value_by_command d (Ok values.Absent) whole bare e w b = reads {u = 1} tt (omega arith) (value_fits t e)
+  value_by_command d (Ok (values.Text s)) whole bare e w b = lettered_reads text s (λ l. reads {u = 5} l (omega arith) (value_fits t e))
+  value_by_command d (Ok (values.Expression x)) whole bare e w b = reads {u = 3} tt (omega arith) (value_fits t e)
+  value_by_command d (Ok values.Empty) whole bare e w b = reads {u = 1} tt (omega arith) (value_fits t e)
+  value_by_command d (Ok (values.Element p)) whole bare e w b =
       map_reads node_value (λ n h. h) (less 1 (omega arith) (opened_reads d p t (value_fits t e) (w p)))
-  value_by_command d (values.Fragment p) whole bare e w b =
+  value_by_command d (Ok (values.Fragment p)) whole bare e w b =
       map_reads node_value (λ n h. h) (less 1 (omega arith) (opened_reads d p t (value_fits t e) (b p)))
 
-  children_by_command : (d : ℕ) (c : ChildCommand) (whole bare : Place → Parsed Node) (next : ℕ → Parsed Children) → child_command t ≡ c
+  children_by_command : (d : ℕ) (c : Result ChildCommand CommandError) (whole bare : Place → Parsed Node) (next : ℕ → Parsed Children) → child_command t ≡ c
       → Inner whole → Inner bare → Next (ChildrenInOrder text) 1 t next
       → Reads (ChildrenInOrder text) 1 (length t) (children_by text d t c whole bare next)
   unfolding children_by ChildrenInOrder
-  children_by_command d children.Wrong whole bare next e w b f = here
-  children_by_command d children.Cut whole bare next e w b f = end
-  children_by_command d children.End whole bare next e w b f = reads {u = 1} tt (omega arith) (child_fits t e)
-  children_by_command d (children.Text s) whole bare next e w b f =
+  children_by_command d (Err x) whole bare next e w b f = unread t x
+  children_by_command d (Ok children.End) whole bare next e w b f = reads {u = 1} tt (omega arith) (child_fits t e)
+  children_by_command d (Ok (children.Text s)) whole bare next e w b f =
       lettered_reads text s (λ l. map_reads (text_child s) (λ k i. (l, i)) (less 1 (omega arith) (f 5 (child_fits t e))))
-  children_by_command d (children.Expression x) whole bare next e w b f =
+  children_by_command d (Ok (children.Expression x)) whole bare next e w b f =
       map_reads (expression_child x) (λ k i. i) (less 1 (omega arith) (f 3 (child_fits t e)))
-  children_by_command d children.Empty whole bare next e w b f = map_reads empty_child (λ k i. i) (less 1 (omega arith) (f 1 (child_fits t e)))
-  children_by_command d (children.Spread x) whole bare next e w b f = map_reads (spread_child x) (λ k i. i) (less 1 (omega arith) (f 3 (child_fits t e)))
-  children_by_command d (children.Element p) whole bare next e w b f =
+  children_by_command d (Ok children.Empty) whole bare next e w b f = map_reads empty_child (λ k i. i) (less 1 (omega arith) (f 1 (child_fits t e)))
+  children_by_command d (Ok (children.Spread x)) whole bare next e w b f = map_reads (spread_child x) (λ k i. i) (less 1 (omega arith) (f 3 (child_fits t e)))
+  children_by_command d (Ok (children.Element p)) whole bare next e w b f =
       then_reads _ (opened_reads d p t (child_fits t e) (w p)) (λ n u q h k. map_reads (node_child n) (λ c i. (q, i)) (less 1 (omega arith) (f u k)))
-  children_by_command d (children.Fragment p) whole bare next e w b f =
+  children_by_command d (Ok (children.Fragment p)) whole bare next e w b f =
       then_reads _ (opened_reads d p t (child_fits t e) (b p)) (λ n u q h k. map_reads (node_child n) (λ c i. (q, i)) (less 1 (omega arith) (f u k)))
 
 mutual
@@ -315,28 +314,24 @@ abbrev RootInOrder : List ℕ → Root → Type 0
 RootInOrder text r = InOrder text r.node
 
 module _ (text t : List ℕ) where
-  scopes_by_command : (found : Bool) (c : ScopeCommand) (whole bare : Place → Parsed Node) (next : ℕ → Parsed Scoped) → scope_command found t ≡ c
+  scopes_by_command : (found : Bool) (c : Result ScopeCommand CommandError) (whole bare : Place → Parsed Node) (next : ℕ → Parsed Scoped) → scope_command found t ≡ c
       → Inner text t whole → Inner text t bare
       → ((k : ℕ) → 2 ≤ length t → Reads (ScopedInOrder text) (2 + 1) (length t) (next k))
       → Reads (ScopedInOrder text) 1 (length t) (scopes_by text t c whole bare next)
   unfolding scopes_by
-  scopes_by_command found scopes.Wrong whole bare next e w b f = here
-  scopes_by_command found scopes.Cut whole bare next e w b f = end
-  scopes_by_command found scopes.Bad whole bare next e w b f = here
-  scopes_by_command found (scopes.Scope k) whole bare next e w b f =
+  scopes_by_command found (Err x) whole bare next e w b f = unread t x
+  scopes_by_command found (Ok (scopes.Scope k)) whole bare next e w b f =
       map_reads (in_scope k) (λ s h. h) (less 1 (omega arith) (f k (scope_fits found t e)))
-  scopes_by_command found (scopes.Element p) whole bare next e w b f =
+  scopes_by_command found (Ok (scopes.Element p)) whole bare next e w b f =
       map_reads unscoped (λ n h. h) (less 1 (omega arith) (opened_reads 0 p t (scope_fits found t e) (w p)))
-  scopes_by_command found (scopes.Fragment p) whole bare next e w b f =
+  scopes_by_command found (Ok (scopes.Fragment p)) whole bare next e w b f =
       map_reads unscoped (λ n h. h) (less 1 (omega arith) (opened_reads 0 p t (scope_fits found t e) (b p)))
 
-  root_by_command : (c : HeritageCommand) (rest : Parsed Scoped) → heritage_command t ≡ c
+  root_by_command : (c : Result ℕ CommandError) (rest : Parsed Scoped) → heritage_command t ≡ c
       → (2 ≤ length t → Reads (ScopedInOrder text) (2 + 1) (length t) rest) → Reads (RootInOrder text) 1 (length t) (root_by t c rest)
   unfolding root_by
-  root_by_command heritages.Wrong rest e f = here
-  root_by_command heritages.Cut rest e f = end
-  root_by_command heritages.Bad rest e f = here
-  root_by_command (heritages.Heritage h) rest e f = map_reads _ (λ s i. i) (less 1 (omega arith) (f (heritage_fits t e)))
+  root_by_command (Err x) rest e f = unread t x
+  root_by_command (Ok h) rest e f = map_reads _ (λ s i. i) (less 1 (omega arith) (f (heritage_fits t e)))
 
 pub scopes_reads : (f : ℕ) (text : List ℕ) (found : Bool) (t : List ℕ) → Reads (ScopedInOrder text) 1 (length t) (scopes_at f text found t)
 unfolding scopes_at

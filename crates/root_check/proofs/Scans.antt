@@ -10,41 +10,34 @@ use native.Mathlib.Nat.{zero-add, add_assoc}
 use native.Mathlib.Omega.{arith}
 use lib.Dec.{eqb, leb}
 use borrow.Author.Tests.{leb-false}
+use Rattle.std.specs.Prelude.{Ok, Err}
 use Rattle.text.specs.declared.spans.Span.{Span}
 use Rattle.text.specs.declared.spans.Bounds.{Bounds}
 use Rattle.text.specs.declared.spans.Bounds.TheVariants.{Outside, Cuts, Empty, Good}
 use Rattle.text.specs.Spans.{part_of, bounds_of}
 use Rattle.references.specs.References.{has_reference}
-use Rattle.tape.specs.declared.refusal.Fault.{Fault}
 use Rattle.tape.specs.declared.refusal.Fault.TheVariants as fault
 use Rattle.commands.specs.declared.root.Place.{Place}
 use Rattle.definitions.specs.Judging.{Parsed, done, stop, ◌then◌, map, from, spanned, named}
 use Rattle.definitions.specs.Reading.{lettered, opened}
-use Rattle.root_check.specs.declared.check.Scan.{Scan}
-use Rattle.root_check.specs.declared.check.Scan.TheVariants as scan
-use Rattle.root_check.specs.Checking.{report, taken, shifted, sequel, going, stepped, level, position}
+use Rattle.root_check.specs.Checking.{Scan, report, taken, shifted, sequel, going, stepped}
 
 -- ---- scans
 
 pub shifted_zero : (s : Scan) → shifted 0 s ≡ s
 unfolding shifted
-shifted_zero (scan.Good u) = simp zero-add
-shifted_zero (scan.Bad f p) = simp zero-add
+shifted_zero (Ok u) = simp zero-add
+shifted_zero (Err e) = simp zero-add
 
 pub shifted_shifted : (u v : ℕ) (s : Scan) → shifted u (shifted v s) ≡ shifted (u + v) s
 unfolding shifted
-shifted_shifted u v (scan.Good w) = simp add_assoc
-shifted_shifted u v (scan.Bad f p) = simp add_assoc
+shifted_shifted u v (Ok w) = simp add_assoc
+shifted_shifted u v (Err e) = simp add_assoc
 
 pub stepped_going : (s : Scan) (k : ℕ → Scan) → stepped (going s) k ≡ sequel s k
 unfolding stepped going sequel
-stepped_going (scan.Good u) k = refl
-stepped_going (scan.Bad f p) k = refl
-
-pub sequel_sequel : (s : Scan) (j k : ℕ → Scan) → sequel s (λ u. sequel (j u) k) ≡ sequel (sequel s j) k
-unfolding sequel
-sequel_sequel (scan.Good u) j k = refl
-sequel_sequel (scan.Bad f p) j k = refl
+stepped_going (Ok u) k = refl
+stepped_going (Err e) k = refl
 
 -- ---- readings
 
@@ -128,50 +121,13 @@ opened_then d at p = go (leb 64 d) (eqb at.line 4294967295 || eqb at.column 4294
     go false true = refl
     go false false = report_from 9 p
 
--- its level is judged before its place
-pub opened_judged : (d : ℕ) (at : Place) → sequel (level d) (λ u. position at) ≡ report (opened d at (taken 0))
-unfolding report opened sequel from level position
-opened_judged d at = go (leb 64 d) (eqb at.line 4294967295 || eqb at.column 4294967295)
-  where
-    go : (b x : Bool)
-        → sequel (cond b (scan.Bad fault.Depth 0) (scan.Good 9)) (λ u. cond x (scan.Bad fault.Position 0) (scan.Good 9))
-        ≡ report (cond b (stop fault.Depth 0) (cond x (stop fault.Position 0) (from 9 (taken 0))))
-    go true x = refl
-    go false true = refl
-    go false false = refl
-
 -- it is opened only below the 65th level
-pub opened_shallow : (d : ℕ) (at : Place) (u : ℕ) → report (opened d at (taken 0)) ≡ scan.Good u → d < 64
+pub opened_shallow : (d : ℕ) (at : Place) (u : ℕ) → report (opened d at (taken 0)) ≡ Ok u → d < 64
 unfolding report opened
 opened_shallow d at u e = go (leb 64 d) refl e
   where
     go : (b : Bool) → leb 64 d ≡ b
-        → report (cond b (stop fault.Depth 0) (cond (eqb at.line 4294967295 || eqb at.column 4294967295) (stop fault.Position 0) (from 9 (taken 0)))) ≡ scan.Good u
+        → report (cond b (stop fault.Depth 0) (cond (eqb at.line 4294967295 || eqb at.column 4294967295) (stop fault.Position 0) (from 9 (taken 0)))) ≡ Ok u
         → d < 64
     go true h e = let z : ◌≡◌ {A = ℕ} 0 1 = cc in absurd (omega arith)
     go false h e = omega (arith, leb-false)
-
--- a text's span was scanned, and references are looked for where nothing was wrong
-module _ (text : List ℕ) (s : Span) (n : ℕ) (r : Scan) (e : r ≡ report (spanned (bounds_of text s) (taken n))) where
-  pub lettered_refused : (f : Fault) (q : ℕ) → r ≡ scan.Bad f q → r ≡ report (lettered text s (taken n))
-  unfolding report lettered spanned
-  lettered_refused f q h = go (bounds_of text s) e
-    where
-      go : (b : Bounds) → r ≡ report (spanned b (taken n))
-          → r ≡ report (spanned b (cond (has_reference (part_of text s)) (stop fault.Reference 0) (taken n)))
-      go Outside e = e
-      go Cuts e = e
-      go Empty e = let z : ◌≡◌ {A = ℕ} 0 1 = cc in absurd (omega arith)
-      go Good e = let z : ◌≡◌ {A = ℕ} 0 1 = cc in absurd (omega arith)
-
-  pub lettered_searched : (u : ℕ) (x : Bool) → r ≡ scan.Good u → has_reference (part_of text s) ≡ x
-      → report (cond x (stop fault.Reference 0) (taken n)) ≡ report (lettered text s (taken n))
-  unfolding report lettered spanned
-  lettered_searched u x h q = rw q (go (bounds_of text s) e)
-    where
-      go : (b : Bounds) → r ≡ report (spanned b (taken n))
-          → report (cond x (stop fault.Reference 0) (taken n)) ≡ report (spanned b (cond x (stop fault.Reference 0) (taken n)))
-      go Outside e = let z : ◌≡◌ {A = ℕ} 0 1 = cc in absurd (omega arith)
-      go Cuts e = let z : ◌≡◌ {A = ℕ} 0 1 = cc in absurd (omega arith)
-      go Empty e = refl
-      go Good e = refl

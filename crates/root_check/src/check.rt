@@ -1,314 +1,281 @@
 // Whether a root tape is what docs/TAPES.md, "Root tape" and "Grammar", allows: the fault at its earliest command, or none.
 //
 // Siblings are passed in loops, and what is nested is checked by recursion over a part of the tape that starts at its command. At most 64 levels nest, so
-// the stack that a check takes is bounded: in the program `root_check_test`, compiled for x86-64, a level takes 384 bytes at most (an element among
-// children), and a whole check less than 26,000.
-ghost use Rattle.std.specs.Prelude.{◌≡◌, false, ◌||◌, ℕ, suc, ◌+◌, ◌≤◌, ◌<◌, ◌^◌, length, drop};
+// the stack that a check takes is bounded: in the program `root_check_test`, compiled for x86-64, a level takes 336 bytes at most (an element among
+// children), and a whole check less than 23,000.
+ghost use Rattle.std.specs.Prelude.{◌≡◌, false, ◌||◌, Err, List, ℕ, suc, ◌+◌, ◌≤◌, ◌<◌, ◌^◌, length, drop};
 ghost use Rattle.text.specs.Spans.{bounds_of};
 ghost use Rattle.commands.specs.declared.root.Place as place;
-ghost use Rattle.definitions.specs.Judging.{spanned, named, from};
-ghost use Rattle.definitions.specs.Judging as judging;
+ghost use Rattle.definitions.specs.Judging.{spanned, named, worse};
 ghost use Rattle.definitions.specs.Reading.{lettered, opened, members_at, name_at, properties_at, element_at, fragment_at, attributes_at, value_at, children_at, is_function, scopes_at, read_root};
-ghost use Rattle.root_check.specs.Checking.{checked, closed, report, taken, shifted, sequel, reach, level, position, Within, Reports, Opens, Follows, going, Steps};
+ghost use Rattle.root_check.specs.Checking.{fault_at, legible, checked, report, taken, shifted, sequel, reach, level, position, Reports, Opens, going, Moves, Scan, Steps};
 
+use commands::error::CommandError;
 use commands::root::{
-    AttributeCommand, ChildCommand, HeritageCommand, MemberCommand, NameCommand, Place,
-    PropertyCommand, ScopeCommand, ValueCommand, attribute_command_at, child_command_at,
-    heritage_command_at, member_command_at, name_command_at, property_command_at, scope_command_at,
-    value_command_at,
+    AttributeCommand, ChildCommand, NameCommand, Place, PropertyCommand, ScopeCommand,
+    ValueCommand, attribute_command_at, child_command_at, heritage_command_at, member_command_at,
+    name_command_at, property_command_at, scope_command_at, value_command_at,
 };
 use commands::sizes;
 use references::has_reference;
 use tape::refusal::Fault;
 use text::spans::{Bounds, Span, part, span_bounds};
 
-// The answer: the tape reads as a root, or its first fault and the place that is told with it (docs/TAPES.md, "Refusals").
+// A fault, and the place that is told with it (docs/TAPES.md, "Refusals"). The check of a part counts the place from the part's front.
+// The place stands first, where an `Ok` has its size: told from further on both grow alike.
 #[derive(Clone, Copy)]
-pub enum Checked {
-    Good,
-    Bad(Fault, usize),
+pub struct TapeError {
+    pub place: usize,
+    pub fault: Fault,
 }
 
-// What stands at the front of a part of the tape: how many bytes it takes, or its first fault, with the place counted from the front.
-#[derive(Clone, Copy)]
-pub enum Scan {
-    Good(usize),
-    Bad(Fault, usize),
+impl TapeError {
+    // The same, counted from `at` bytes before.
+    fn behind(self, at: usize) -> TapeError
+        requires { at + self.place < 2 ^ 64 }
+        ensures { result ≡ fault_at self.fault (at + self.place) }
+    {
+        TapeError {
+            place: at + self.place,
+            ..self
+        }
+    }
 }
 
-// What stands first in a list: one that takes so many bytes, with more behind it; the list's end, with so many bytes; or a fault.
+// What stands first in a list: one that takes so many bytes, with more behind it; or the list's end, with so many bytes.
 #[derive(Clone, Copy)]
 pub enum Step {
     Next(usize),
     End(usize),
-    Bad(Fault, usize),
 }
 
-// ---- scans put together
+// ---- scans of parts: how many bytes they take
+
+// A fault of the command at the front.
+fn refuse<T>(fault: Fault) -> Result<T, TapeError>
+    ensures { result ≡ Err (fault_at fault 0) }
+{
+    Err(TapeError { fault, place: 0 })
+}
+
+// A command at the front of the tape: where it can't be read, told behind what is left if it is cut off, and else at the command.
+#[tactic(auto, unfolding(crate::specs::Checking::legible))]
+fn legible<C>(tape: &[u8], command: Result<C, CommandError>) -> Result<C, TapeError>
+    ensures { result ≡ legible tape.now command }
+{
+    command.map_err(|error| TapeError {
+        fault: Fault::Grammar,
+        place: match error {
+            CommandError::Cut => tape.len(),
+            CommandError::Wrong | CommandError::Bad => 0,
+        },
+    })
+}
 
 // A scan of the part that begins at `at`, told from where the whole begins.
-fn further(at: usize, scan: Scan) -> Scan
+#[tactic(auto, unfolding(crate::specs::Checking::shifted))]
+fn further(at: usize, scan: Result<usize, TapeError>) -> Result<usize, TapeError>
     requires { at + reach scan < 2 ^ 64 }
     ensures { result ≡ shifted at scan }
 {
-    match scan {
-        Scan::Good(u) => Scan::Good(at + u),
-        Scan::Bad(f, p) => Scan::Bad(f, at + p),
-    }
+    scan.map(|u| at + u).map_err(|e| e.behind(at))
 }
 
 // A list goes on behind what was scanned.
-fn onward(scan: Scan) -> Step
+#[tactic(auto, unfolding(crate::specs::Checking::going))]
+fn onward(scan: Result<usize, TapeError>) -> Result<Step, TapeError>
     ensures { result ≡ going scan }
 {
-    match scan {
-        Scan::Good(u) => Step::Next(u),
-        Scan::Bad(f, p) => Step::Bad(f, p),
-    }
+    scan.map(Step::Next)
 }
 
 // ---- what can be wrong at a command of n bytes, but for its grammar
 
 // Its span, which may be empty.
-fn check_span(text: &[u8], span: Span, n: usize) -> Scan
+#[tactic(auto, unfolding(crate::specs::Checking::report, definitions::specs::Judging::named, definitions::specs::Judging::spanned))]
+fn check_span(text: &[u8], span: Span, n: usize) -> Result<usize, TapeError>
     ensures { result ≡ report (spanned (bounds_of text.now span) (taken n)) }
 {
-    let bounds = span_bounds(text, span);
-    match bounds {
-        Bounds::Outside => Scan::Bad(Fault::Outside, 0),
-        Bounds::Cuts => Scan::Bad(Fault::Cuts, 0),
-        Bounds::Empty => Scan::Good(n),
-        Bounds::Good => Scan::Good(n),
+    match span_bounds(text, span) {
+        Bounds::Empty => Ok(n),
+        bounds => check_bounds(bounds, n),
     }
 }
 
 // Its span, a name with these bounds.
-fn check_bounds(bounds: Bounds, n: usize) -> Scan
+#[tactic(auto, unfolding(crate::specs::Checking::report, definitions::specs::Judging::named))]
+fn check_bounds(bounds: Bounds, n: usize) -> Result<usize, TapeError>
     ensures { result ≡ report (named bounds (taken n)) }
 {
     match bounds {
-        Bounds::Outside => Scan::Bad(Fault::Outside, 0),
-        Bounds::Cuts => Scan::Bad(Fault::Cuts, 0),
-        Bounds::Empty => Scan::Bad(Fault::EmptyName, 0),
-        Bounds::Good => Scan::Good(n),
-    }
-}
-
-// Of two spans of one command the fault that comes first.
-fn worse(a: Bounds, b: Bounds) -> Bounds
-    ensures { result ≡ judging.worse a b }
-{
-    match a {
-        Bounds::Outside => a,
-        Bounds::Cuts => match b {
-            Bounds::Outside => b,
-            Bounds::Cuts => a,
-            Bounds::Empty => a,
-            Bounds::Good => a,
-        },
-        Bounds::Empty => match b {
-            Bounds::Outside => b,
-            Bounds::Cuts => b,
-            Bounds::Empty => a,
-            Bounds::Good => a,
-        },
-        Bounds::Good => b,
+        Bounds::Outside => refuse(Fault::Outside),
+        Bounds::Cuts => refuse(Fault::Cuts),
+        Bounds::Empty => refuse(Fault::EmptyName),
+        Bounds::Good => Ok(n),
     }
 }
 
 // Its span, a name.
-fn check_label(text: &[u8], span: Span, n: usize) -> Scan
+fn check_label(text: &[u8], span: Span, n: usize) -> Result<usize, TapeError>
     ensures { result ≡ report (named (bounds_of text.now span) (taken n)) }
 {
     check_bounds(span_bounds(text, span), n)
 }
 
-// Its two spans, the parts of a namespaced name.
-fn check_labels(text: &[u8], first: Span, second: Span, n: usize) -> Scan
-    ensures { result ≡ report (named (judging.worse (bounds_of text.now first) (bounds_of text.now second)) (taken n)) }
+// Its two spans, the parts of a namespaced name: the worse is told.
+#[tactic(auto, unfolding(definitions::specs::Judging::worse))]
+fn check_labels(text: &[u8], first: Span, second: Span, n: usize) -> Result<usize, TapeError>
+    ensures { result ≡ report (named (worse (bounds_of text.now first) (bounds_of text.now second)) (taken n)) }
 {
-    check_bounds(
-        worse(span_bounds(text, first), span_bounds(text, second)),
-        n,
-    )
+    let bounds = span_bounds(text, first).max(span_bounds(text, second));
+    check_bounds(bounds, n)
 }
 
 // Its span, which names JSX text or an attribute's string: no reference may stand there.
-fn check_text(text: &[u8], span: Span, n: usize) -> Scan
+#[tactic(auto, unfolding(crate::specs::Checking::report, definitions::specs::Judging::spanned, definitions::specs::Reading::lettered))]
+fn check_text(text: &[u8], span: Span, n: usize) -> Result<usize, TapeError>
     ensures { result ≡ report (lettered text.now span (taken n)) }
 {
-    let inside = check_span(text, span, n);
-    let Scan::Good(_) = inside else {
-        return inside;
-    };
+    check_span(text, span, n)?;
     if has_reference(part(text, span)) {
-        return Scan::Bad(Fault::Reference, 0);
+        return refuse(Fault::Reference);
     }
-    Scan::Good(n)
-}
-
-// Of two scans of one command the first that found a fault.
-fn first_fault(before: Scan, after: Scan) -> Scan
-    ensures { result ≡ sequel before (λ u. after) }
-{
-    match before {
-        Scan::Good(_) => after,
-        Scan::Bad(_, _) => before,
-    }
+    Ok(n)
 }
 
 // How many elements and fragments may be open within each other.
 const MOST_LEVELS: usize = 64;
 
 // The level of an element or a fragment, where `depth` of them are open already.
-fn check_level(depth: usize) -> Scan
+#[tactic(auto, unfolding(crate::specs::Checking::level))]
+fn check_level(depth: usize) -> Result<usize, TapeError>
     ensures { result ≡ level depth }
 {
     if MOST_LEVELS <= depth {
-        return Scan::Bad(Fault::Depth, 0);
+        return refuse(Fault::Depth);
     }
-    Scan::Good(sizes::WITH_PLACE)
+    Ok(sizes::WITH_PLACE)
 }
 
 // The line or column to which one can't be added.
 const HIGHEST: u32 = 0xffff_ffff;
 
 // Its line and column: one can be added to each.
-fn check_position(place: Place) -> Scan
+#[tactic(auto, unfolding(crate::specs::Checking::position))]
+fn check_position(place: Place) -> Result<usize, TapeError>
     ensures { result ≡ position place }
 {
-    if place.line == HIGHEST {
-        return Scan::Bad(Fault::Position, 0);
+    if place.line == HIGHEST || place.column == HIGHEST {
+        return refuse(Fault::Position);
     }
-    if place.column == HIGHEST {
-        return Scan::Bad(Fault::Position, 0);
-    }
-    Scan::Good(sizes::WITH_PLACE)
+    Ok(sizes::WITH_PLACE)
 }
 
 // Both, the level first.
-fn check_place(depth: usize, place: Place) -> Scan
+#[tactic(auto, unfolding(crate::specs::Checking::report, crate::specs::Checking::level, crate::specs::Checking::position, definitions::specs::Judging::from, definitions::specs::Reading::opened))]
+fn check_place(depth: usize, place: Place) -> Result<usize, TapeError>
     ensures { result ≡ report (opened depth place (taken 0)) }
 {
-    let level = check_level(depth);
-    let position = check_position(place);
-    first_fault(level, position)
+    check_level(depth)?;
+    check_position(place)
+}
+
+// ---- lists
+
+// A list by what stands first in it, which `step` tells of any part of the tape.
+fn check_list<F: Fn(&[u8]) -> Result<Step, TapeError>>(
+    tape: &[u8],
+    step: F,
+) -> Result<usize, TapeError>
+    requires called { (t : _) → length t.now ≤ length tape.now → F.pre step t }
+    requires moves { (t : _) (s : _) → F.post step t s → Moves (length t.now) s }
+    ensures { (read : ℕ → List ℕ → Scan) → ((t : _) (s : _) → F.post step t s → Steps read t.now s) → Reports read tape.now result }
+{
+    let mut i: usize = 0;
+    loop {
+        match step(&tape[i..]) {
+            Ok(Step::Next(u)) => i += u,
+            Ok(Step::End(u)) => return Ok(i + u),
+            Err(e) => return Err(e.behind(i)),
+        }
+    }
 }
 
 // ---- names
 
 // The first of an identifier's or of `this`'s properties.
-fn member_step(text: &[u8], tape: &[u8]) -> Step
-    ensures { Steps (λ f t. members_at f text.now t) tape.now result }
+fn member_step(text: &[u8], tape: &[u8]) -> Result<Step, TapeError>
+    ensures { Steps (λ f t. report (members_at f text.now t)) tape.now result }
 {
-    let command = member_command_at(tape);
-    match command {
-        MemberCommand::Member(s) => onward(check_label(text, s, sizes::WITH_SPAN)),
-        MemberCommand::Other => Step::End(0),
-        MemberCommand::Cut => Step::Bad(Fault::Grammar, tape.len()),
+    let member = legible(tape, member_command_at(tape))?;
+    match member {
+        Some(s) => onward(check_label(text, s, sizes::WITH_SPAN)),
+        None => Ok(Step::End(0)),
     }
 }
 
-fn check_members(text: &[u8], tape: &[u8]) -> Scan
-    ensures { Reports (λ f t. members_at f text.now t) tape.now result }
+fn check_members(text: &[u8], tape: &[u8]) -> Result<usize, TapeError>
+    ensures { Reports (λ f t. report (members_at f text.now t)) tape.now result }
 {
-    let mut i: usize = 0;
-    loop {
-        let step = member_step(text, &tape[i..]);
-        match step {
-            Step::Next(u) => {
-                i = i + u;
-            }
-            Step::End(u) => {
-                return Scan::Good(i + u);
-            }
-            Step::Bad(f, p) => {
-                return Scan::Bad(f, i + p);
-            }
-        }
-    }
+    check_list(tape, |part| member_step(text, part))
 }
 
-// The properties behind an identifier or `this`, which was scanned as `front`.
-fn members_behind(text: &[u8], tape: &[u8], front: Scan) -> Scan
-    requires { Within 1 (length tape.now) front }
-    ensures { Follows (λ f t. members_at f text.now t) tape.now front result }
+// The properties behind an identifier or `this` of n bytes.
+fn members_behind(text: &[u8], tape: &[u8], n: usize) -> Result<usize, TapeError>
+    requires { (1 ≤ n) × (n ≤ length tape.now) }
+    ensures { Opens (λ f t. shifted n (report (members_at f text.now (drop n t)))) tape.now result }
 {
-    let Scan::Good(n) = front else {
-        return front;
-    };
     further(n, check_members(text, &tape[n..]))
 }
 
-fn check_name(text: &[u8], tape: &[u8]) -> Scan
-    ensures { Reports (λ f t. name_at f text.now t) tape.now result }
+fn check_name(text: &[u8], tape: &[u8]) -> Result<usize, TapeError>
+    ensures { Reports (λ f t. report (name_at f text.now t)) tape.now result }
 {
-    let command = name_command_at(tape);
+    let command = legible(tape, name_command_at(tape))?;
     match command {
         NameCommand::Plain(s) => check_label(text, s, sizes::WITH_SPAN),
-        NameCommand::Identifier(s) => members_behind(
-            text,
-            tape,
-            check_label(text, s, sizes::WITH_SPAN),
-        ),
-        NameCommand::This => members_behind(text, tape, Scan::Good(sizes::BARE)),
+        NameCommand::Identifier(s) => {
+            let n = check_label(text, s, sizes::WITH_SPAN)?;
+            members_behind(text, tape, n)
+        }
+        NameCommand::This => members_behind(text, tape, sizes::BARE),
         NameCommand::Namespaced(s, t) => check_labels(text, s, t, sizes::WITH_SPANS),
-        NameCommand::Wrong => Scan::Bad(Fault::Grammar, 0),
-        NameCommand::Cut => Scan::Bad(Fault::Grammar, tape.len()),
     }
 }
 
 // ---- the properties of an object literal
 
-fn property_step(text: &[u8], tape: &[u8]) -> Step
-    ensures { Steps (λ f t. properties_at f text.now t) tape.now result }
+fn property_step(text: &[u8], tape: &[u8]) -> Result<Step, TapeError>
+    ensures { Steps (λ f t. report (properties_at f text.now t)) tape.now result }
 {
-    let command = property_command_at(tape);
+    let command = legible(tape, property_command_at(tape))?;
     match command {
-        PropertyCommand::Property(_) => Step::Next(sizes::WITH_EXPRESSION),
-        PropertyCommand::Named(_, s) => onward(check_span(
-            text,
-            s,
-            sizes::WITH_EXPRESSION_AND_SPAN,
-        )),
-        PropertyCommand::End => Step::End(sizes::BARE),
-        PropertyCommand::Wrong => Step::Bad(Fault::Grammar, 0),
-        PropertyCommand::Cut => Step::Bad(Fault::Grammar, tape.len()),
+        PropertyCommand::Property(_) => Ok(Step::Next(sizes::WITH_EXPRESSION)),
+        PropertyCommand::Named(_, s) => {
+            onward(check_span(text, s, sizes::WITH_EXPRESSION_AND_SPAN))
+        }
+        PropertyCommand::End => Ok(Step::End(sizes::BARE)),
     }
 }
 
-fn check_properties(text: &[u8], tape: &[u8]) -> Scan
-    ensures { Reports (λ f t. properties_at f text.now t) tape.now result }
+fn check_properties(text: &[u8], tape: &[u8]) -> Result<usize, TapeError>
+    ensures { Reports (λ f t. report (properties_at f text.now t)) tape.now result }
 {
-    let mut i: usize = 0;
-    loop {
-        let step = property_step(text, &tape[i..]);
-        match step {
-            Step::Next(u) => {
-                i = i + u;
-            }
-            Step::End(u) => {
-                return Scan::Good(i + u);
-            }
-            Step::Bad(f, p) => {
-                return Scan::Bad(f, i + p);
-            }
-        }
-    }
+    check_list(tape, |part| property_step(text, part))
 }
 
 // ---- elements and fragments: `depth` of them are open
+//
+// kept: the text, the tape and the depth go together as in the definition (`attributes_at f text d t`), but each call has another tape or depth: a struct of them would be
+// made at every call, and taken apart in the next.
 
 // An element whose 10 stands at the front.
 #[cycle(nodes)]
-fn open_element(text: &[u8], tape: &[u8], depth: usize, place: Place) -> Scan
+fn open_element(text: &[u8], tape: &[u8], depth: usize, place: Place) -> Result<usize, TapeError>
     requires { 9 ≤ length tape.now }
-    ensures { Opens (λ f t. opened depth place (element_at f text.now depth place (drop 9 t))) tape.now result }
+    ensures { Opens (λ f t. report (opened depth place (element_at f text.now depth place (drop 9 t)))) tape.now result }
 {
-    let front = check_place(depth, place);
-    let Scan::Good(_) = front else {
-        return front;
-    };
+    check_place(depth, place)?;
     further(
         sizes::WITH_PLACE,
         check_element(text, &tape[sizes::WITH_PLACE..], depth),
@@ -316,15 +283,13 @@ fn open_element(text: &[u8], tape: &[u8], depth: usize, place: Place) -> Scan
 }
 
 // A fragment whose 11 stands at the front.
+// kept: this and `open_element` are two lines, the second a call of its own. With that call as a closure each place that opens would write a closure in place of a name.
 #[cycle(nodes)]
-fn open_fragment(text: &[u8], tape: &[u8], depth: usize, place: Place) -> Scan
+fn open_fragment(text: &[u8], tape: &[u8], depth: usize, place: Place) -> Result<usize, TapeError>
     requires { 9 ≤ length tape.now }
-    ensures { Opens (λ f t. opened depth place (fragment_at f text.now depth place (drop 9 t))) tape.now result }
+    ensures { Opens (λ f t. report (opened depth place (fragment_at f text.now depth place (drop 9 t)))) tape.now result }
 {
-    let front = check_place(depth, place);
-    let Scan::Good(_) = front else {
-        return front;
-    };
+    check_place(depth, place)?;
     further(
         sizes::WITH_PLACE,
         check_children(text, &tape[sizes::WITH_PLACE..], depth + 1),
@@ -333,137 +298,100 @@ fn open_fragment(text: &[u8], tape: &[u8], depth: usize, place: Place) -> Scan
 
 // An element behind its 10 and place: a name, attributes, children. Its reader takes a turn of its own.
 #[cycle(nodes)]
-fn check_element(text: &[u8], tape: &[u8], depth: usize) -> Scan
+fn check_element(text: &[u8], tape: &[u8], depth: usize) -> Result<usize, TapeError>
     requires { depth < 64 }
-    ensures { (p : place.Place) → Reports (λ f t. element_at (suc f) text.now depth p t) tape.now result }
+    ensures { (p : place.Place) → Reports (λ f t. report (element_at (suc f) text.now depth p t)) tape.now result }
 {
-    let name = check_name(text, tape);
-    let Scan::Good(u) = name else {
-        return name;
-    };
-    let attributes = further(u, check_attributes(text, &tape[u..], depth + 1));
-    let Scan::Good(v) = attributes else {
-        return attributes;
-    };
+    let u = check_name(text, tape)?;
+    let v = further(u, check_attributes(text, &tape[u..], depth + 1))?;
     further(v, check_children(text, &tape[v..], depth + 1))
 }
 
 #[cycle(nodes)]
-fn attribute_step(text: &[u8], tape: &[u8], depth: usize) -> Step
-    ensures { Steps (λ f t. attributes_at f text.now depth t) tape.now result }
+fn attribute_step(text: &[u8], tape: &[u8], depth: usize) -> Result<Step, TapeError>
+    ensures { Steps (λ f t. report (attributes_at f text.now depth t)) tape.now result }
 {
-    let command = attribute_command_at(tape);
+    let command = legible(tape, attribute_command_at(tape))?;
     match command {
-        AttributeCommand::Plain(s) => onward(value_behind(
-            text,
-            tape,
-            depth,
-            check_label(text, s, sizes::WITH_SPAN),
-        )),
-        AttributeCommand::Namespaced(s, t) => onward(value_behind(
-            text,
-            tape,
-            depth,
-            check_labels(text, s, t, sizes::WITH_SPANS),
-        )),
-        AttributeCommand::Spread(_) => Step::Next(sizes::WITH_EXPRESSION),
+        AttributeCommand::Plain(s) => {
+            let n = check_label(text, s, sizes::WITH_SPAN)?;
+            onward(value_behind(text, tape, depth, n))
+        }
+        AttributeCommand::Namespaced(s, t) => {
+            let n = check_labels(text, s, t, sizes::WITH_SPANS)?;
+            onward(value_behind(text, tape, depth, n))
+        }
+        AttributeCommand::Spread(_) => Ok(Step::Next(sizes::WITH_EXPRESSION)),
         AttributeCommand::Literal(_) => onward(further(
             sizes::WITH_EXPRESSION,
             check_properties(text, &tape[sizes::WITH_EXPRESSION..]),
         )),
-        AttributeCommand::End => Step::End(sizes::BARE),
-        AttributeCommand::Wrong => Step::Bad(Fault::Grammar, 0),
-        AttributeCommand::Cut => Step::Bad(Fault::Grammar, tape.len()),
+        AttributeCommand::End => Ok(Step::End(sizes::BARE)),
     }
 }
 
 #[cycle(nodes)]
-fn check_attributes(text: &[u8], tape: &[u8], depth: usize) -> Scan
-    ensures { Reports (λ f t. attributes_at f text.now depth t) tape.now result }
+fn check_attributes(text: &[u8], tape: &[u8], depth: usize) -> Result<usize, TapeError>
+    ensures { Reports (λ f t. report (attributes_at f text.now depth t)) tape.now result }
 {
-    let mut i: usize = 0;
-    loop {
-        let step = attribute_step(text, &tape[i..], depth);
-        match step {
-            Step::Next(u) => {
-                i = i + u;
-            }
-            Step::End(u) => {
-                return Scan::Good(i + u);
-            }
-            Step::Bad(f, p) => {
-                return Scan::Bad(f, i + p);
-            }
-        }
-    }
+    check_list(
+        tape,
+        |part|
+            ensures { Steps (λ f t. report (attributes_at f text.entry.now depth t)) part.now result }
+        { attribute_step(text, part, depth) },
+    )
 }
 
-// The value behind an attribute's name, which was scanned as `front`.
+// The value behind an attribute's name of n bytes.
 #[cycle(nodes)]
-fn value_behind(text: &[u8], tape: &[u8], depth: usize, front: Scan) -> Scan
-    requires { Within 1 (length tape.now) front }
-    ensures { Follows (λ f t. value_at f text.now depth t) tape.now front result }
+fn value_behind(text: &[u8], tape: &[u8], depth: usize, n: usize) -> Result<usize, TapeError>
+    requires { (1 ≤ n) × (n ≤ length tape.now) }
+    ensures { Opens (λ f t. shifted n (report (value_at f text.now depth (drop n t)))) tape.now result }
 {
-    let Scan::Good(n) = front else {
-        return front;
-    };
     further(n, check_value(text, &tape[n..], depth))
 }
 
 #[cycle(nodes)]
-fn check_value(text: &[u8], tape: &[u8], depth: usize) -> Scan
-    ensures { Reports (λ f t. value_at f text.now depth t) tape.now result }
+fn check_value(text: &[u8], tape: &[u8], depth: usize) -> Result<usize, TapeError>
+    ensures { Reports (λ f t. report (value_at f text.now depth t)) tape.now result }
 {
-    let command = value_command_at(tape);
+    let command = legible(tape, value_command_at(tape))?;
     match command {
-        ValueCommand::Absent => Scan::Good(sizes::BARE),
+        ValueCommand::Absent => Ok(sizes::BARE),
         ValueCommand::Text(s) => check_text(text, s, sizes::WITH_SPAN),
-        ValueCommand::Expression(_) => Scan::Good(sizes::WITH_EXPRESSION),
-        ValueCommand::Empty => Scan::Good(sizes::BARE),
+        ValueCommand::Expression(_) => Ok(sizes::WITH_EXPRESSION),
+        ValueCommand::Empty => Ok(sizes::BARE),
         ValueCommand::Element(p) => open_element(text, tape, depth, p),
         ValueCommand::Fragment(p) => open_fragment(text, tape, depth, p),
-        ValueCommand::Wrong => Scan::Bad(Fault::Grammar, 0),
-        ValueCommand::Cut => Scan::Bad(Fault::Grammar, tape.len()),
     }
 }
 
 #[cycle(nodes)]
-fn child_step(text: &[u8], tape: &[u8], depth: usize) -> Step
-    ensures { Steps (λ f t. children_at f text.now depth t) tape.now result }
+fn child_step(text: &[u8], tape: &[u8], depth: usize) -> Result<Step, TapeError>
+    ensures { Steps (λ f t. report (children_at f text.now depth t)) tape.now result }
 {
-    let command = child_command_at(tape);
+    let command = legible(tape, child_command_at(tape))?;
     match command {
         ChildCommand::Text(s) => onward(check_text(text, s, sizes::WITH_SPAN)),
-        ChildCommand::Expression(_) => Step::Next(sizes::WITH_EXPRESSION),
-        ChildCommand::Empty => Step::Next(sizes::BARE),
-        ChildCommand::Spread(_) => Step::Next(sizes::WITH_EXPRESSION),
+        ChildCommand::Expression(_) => Ok(Step::Next(sizes::WITH_EXPRESSION)),
+        ChildCommand::Empty => Ok(Step::Next(sizes::BARE)),
+        ChildCommand::Spread(_) => Ok(Step::Next(sizes::WITH_EXPRESSION)),
         ChildCommand::Element(p) => onward(open_element(text, tape, depth, p)),
         ChildCommand::Fragment(p) => onward(open_fragment(text, tape, depth, p)),
-        ChildCommand::End => Step::End(sizes::BARE),
-        ChildCommand::Wrong => Step::Bad(Fault::Grammar, 0),
-        ChildCommand::Cut => Step::Bad(Fault::Grammar, tape.len()),
+        ChildCommand::End => Ok(Step::End(sizes::BARE)),
     }
 }
 
 #[cycle(nodes)]
-fn check_children(text: &[u8], tape: &[u8], depth: usize) -> Scan
-    ensures { Reports (λ f t. children_at f text.now depth t) tape.now result }
+fn check_children(text: &[u8], tape: &[u8], depth: usize) -> Result<usize, TapeError>
+    ensures { Reports (λ f t. report (children_at f text.now depth t)) tape.now result }
 {
-    let mut i: usize = 0;
-    loop {
-        let step = child_step(text, &tape[i..], depth);
-        match step {
-            Step::Next(u) => {
-                i = i + u;
-            }
-            Step::End(u) => {
-                return Scan::Good(i + u);
-            }
-            Step::Bad(f, p) => {
-                return Scan::Bad(f, i + p);
-            }
-        }
-    }
+    check_list(
+        tape,
+        |part|
+            ensures { Steps (λ f t. report (children_at f text.entry.now depth t)) part.now result }
+        { child_step(text, part, depth) },
+    )
 }
 
 // ---- the root
@@ -471,78 +399,39 @@ fn check_children(text: &[u8], tape: &[u8], depth: usize) -> Scan
 // The kinds of scopes from here on, constructors and other functions, have a `this` of their own.
 const FIRST_FUNCTION: u8 = 2;
 
-// Whether a scope of kind 2 or 3 has come, with one more scope.
-fn in_function(found: bool, kind: u8) -> bool
-    ensures { result ≡ (found || is_function kind) }
-{
-    if found {
-        return true;
-    }
-    FIRST_FUNCTION <= kind
-}
-
 // The scopes, and the element or fragment that stands in them.
-fn check_scopes(text: &[u8], tape: &[u8]) -> Scan
-    ensures { Reports (λ f t. scopes_at f text.now false t) tape.now result }
+fn check_scopes(text: &[u8], tape: &[u8]) -> Result<usize, TapeError>
+    ensures { Reports (λ f t. report (scopes_at f text.now false t)) tape.now result }
 {
+    // whether a scope of kind 2 or 3 has come
     let mut found = false;
     let mut i: usize = 0;
     loop {
-        let command = scope_command_at(found, &tape[i..]);
-        match command {
-            ScopeCommand::Scope(kind) => {
-                found = in_function(found, kind);
-                i = i + sizes::WITH_KIND;
+        let rest = &tape[i..];
+        match legible(rest, scope_command_at(found, rest)) {
+            Ok(ScopeCommand::Scope(kind)) => {
+                found |= FIRST_FUNCTION <= kind;
+                i += sizes::WITH_KIND;
             }
-            ScopeCommand::Element(p) => {
-                return further(i, open_element(text, &tape[i..], 0, p));
-            }
-            ScopeCommand::Fragment(p) => {
-                return further(i, open_fragment(text, &tape[i..], 0, p));
-            }
-            ScopeCommand::Wrong => {
-                return Scan::Bad(Fault::Grammar, i);
-            }
-            ScopeCommand::Cut => {
-                return Scan::Bad(Fault::Grammar, tape.len());
-            }
-            ScopeCommand::Bad => {
-                return Scan::Bad(Fault::Grammar, i);
-            }
+            Ok(ScopeCommand::Element(p)) => return further(i, open_element(text, rest, 0, p)),
+            Ok(ScopeCommand::Fragment(p)) => return further(i, open_fragment(text, rest, 0, p)),
+            Err(e) => return Err(e.behind(i)),
         }
     }
 }
 
-// What the scan of a tape of `len` bytes says of the whole: what is left over is refused where it begins.
-fn close(len: usize, scan: Scan) -> Checked
-    ensures { result ≡ closed len scan }
-{
-    match scan {
-        Scan::Good(u) => {
-            if u < len {
-                return Checked::Bad(Fault::Grammar, u);
-            }
-            Checked::Good
-        }
-        Scan::Bad(f, p) => Checked::Bad(f, p),
-    }
-}
-
-// Whether the tape reads as a root over the text.
-pub fn check_root(text: &[u8], tape: &[u8]) -> Checked
+// Whether the tape reads as a root over the text: what is left over is refused where it begins.
+pub fn check_root(text: &[u8], tape: &[u8]) -> Result<(), TapeError>
     ensures { result ≡ checked (read_root text.now tape.now) }
 {
-    let command = heritage_command_at(tape);
-    match command {
-        HeritageCommand::Heritage(_) => close(
-            tape.len(),
-            further(
-                sizes::WITH_KIND,
-                check_scopes(text, &tape[sizes::WITH_KIND..]),
-            ),
-        ),
-        HeritageCommand::Wrong => Checked::Bad(Fault::Grammar, 0),
-        HeritageCommand::Cut => Checked::Bad(Fault::Grammar, tape.len()),
-        HeritageCommand::Bad => Checked::Bad(Fault::Grammar, 0),
+    legible(tape, heritage_command_at(tape))?;
+    let scopes = check_scopes(text, &tape[sizes::WITH_KIND..]);
+    let taken = further(sizes::WITH_KIND, scopes)?;
+    if taken < tape.len() {
+        return Err(TapeError {
+            fault: Fault::Grammar,
+            place: taken,
+        });
     }
+    Ok(())
 }

@@ -10,34 +10,31 @@ use commands::root::{PropertyCommand, property_command_at};
 use commands::sizes::command_size;
 use commands::{codes, sizes};
 
-// How many bytes a command takes that stands within an element or a fragment; 0 where there is none.
-fn size_within(code: u8) -> usize
+// How many bytes the command with this code takes, if it stands within an element or a fragment.
+#[tactic(auto, unfolding(crate::specs::Skipping::size_within))]
+fn size_within(code: u8) -> Option<usize>
     ensures { result ≡ size_within code }
 {
     if code < codes::ELEMENT {
-        return 0;
+        return None;
     }
-    command_size(code)
+    match command_size(code) {
+        0 => None,
+        size => Some(size),
+    }
 }
 
 // How many elements and fragments are open behind a command, with `levels` of them before it.
+#[tactic(auto, unfolding(crate::specs::Skipping::open_behind))]
 fn open_behind(code: u8, levels: usize) -> usize
     requires { levels < 2 ^ 63 }
     ensures { result ≡ open_behind code levels }
 {
-    if code == codes::ELEMENT {
-        return levels + 1;
+    match code {
+        codes::ELEMENT | codes::FRAGMENT => levels + 1,
+        codes::END => levels.saturating_sub(1),
+        _ => levels,
     }
-    if code == codes::FRAGMENT {
-        return levels + 1;
-    }
-    if code == codes::END {
-        if levels == 0 {
-            return 0;
-        }
-        return levels - 1;
-    }
-    levels
 }
 
 // How many bytes the value at the front of the tape takes, if one stands there that reads; otherwise those up to where none is open, or no whole
@@ -49,23 +46,21 @@ pub fn skip_value(tape: &[u8]) -> usize
     ensures passed { result ≡ value_passed tape.now }
 {
     let mut levels: usize = 0;
-    let mut i: usize = 0;
-    while i < tape.len() {
-        let code = tape[i];
-        let size = size_within(code);
-        if size == 0 {
-            return i;
-        }
-        if tape.len() - i < size {
-            return i;
-        }
+    let mut rest = tape;
+    while let Some(&code) = rest.first() {
+        let Some(size) = size_within(code) else {
+            break;
+        };
+        let Some(behind) = rest.get(size..) else {
+            break;
+        };
+        rest = behind;
         levels = open_behind(code, levels);
-        i = i + size;
         if levels == 0 {
-            return i;
+            break;
         }
     }
-    i
+    tape.len() - rest.len()
 }
 
 // How many bytes the properties at the front of the tape take, with the 35 that ends them, if they read; otherwise those up to where none stands.
@@ -77,17 +72,11 @@ pub fn skip_properties(tape: &[u8]) -> usize
 {
     let mut i: usize = 0;
     loop {
-        let command = property_command_at(&tape[i..]);
-        match command {
-            PropertyCommand::Property(_) => {
-                i = i + sizes::WITH_EXPRESSION;
-            }
-            PropertyCommand::Named(_, _) => {
-                i = i + sizes::WITH_EXPRESSION_AND_SPAN;
-            }
-            PropertyCommand::End => return i + sizes::BARE,
-            PropertyCommand::Wrong => return i,
-            PropertyCommand::Cut => return i,
+        match property_command_at(&tape[i..]) {
+            Ok(PropertyCommand::Property(_)) => i += sizes::WITH_EXPRESSION,
+            Ok(PropertyCommand::Named(_, _)) => i += sizes::WITH_EXPRESSION_AND_SPAN,
+            Ok(PropertyCommand::End) => return i + sizes::BARE,
+            Err(_) => return i,
         }
     }
 }

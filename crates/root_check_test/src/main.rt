@@ -4,14 +4,14 @@
 #![tactic(auto)]
 
 mod cases;
-mod vectors;
+mod listed;
 
 use files::read_full;
 use std::io;
 use std::io::{Result, Write};
 
 fn run(out: &mut impl Write, lines: &[u8]) -> Result<()> {
-    vectors::run(out, lines)?;
+    listed::run(out, lines)?;
     cases::run(out)
 }
 
@@ -19,5 +19,5 @@ fn main(rt: HostRuntime) {
     let mut lines = [0u8; 65536];
     let n = read_full(&mut rt.reader(), &mut lines);
     // a test whose output is not taken has failed by what is missing there
-    let _ = run(&mut io::writer(&rt), &lines[0..n]);
+    let _ = run(&mut io::writer(&rt), &lines[..n]);
 }

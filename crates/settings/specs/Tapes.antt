@@ -1,31 +1,33 @@
 -- What the walks over the opening tape give, in the terms of crate `definitions`.
-use Rattle.std.specs.Prelude.{ℕ, suc, ◌+◌, ◌≤◌, ◌≡◌, true, List, length, drop, replicate}
+use Rattle.std.specs.Prelude.{ℕ, suc, ◌+◌, ◌≤◌, ◌≡◌, true, List, length, drop, replicate, None, Option, Some, Result, Ok, Err, ⊤}
+use Rattle.text.specs.declared.spans.Span.{Span}
 use Rattle.text.specs.declared.spans.Bounds.{Bounds}
 use Rattle.text.specs.declared.spans.Bounds.TheVariants as bounds
 use Rattle.text.specs.Spans.{bounds_of}
+use Rattle.commands.specs.declared.error.CommandError.{CommandError}
 use Rattle.commands.specs.declared.opening.OptionCommand.{OptionCommand}
 use Rattle.commands.specs.declared.opening.OptionCommand.TheVariants as option
+use Rattle.tape.specs.declared.refusal.Fault.{Fault}
 use Rattle.tape.specs.declared.refusal.Fault.TheVariants.{Grammar, Outside, Cuts}
+use Rattle.tape.specs.declared.refusal.Refusal.{Refusal}
 use Rattle.tape.specs.declared.refusal.Refusal.TheVariants as refusal
-use Rattle.definitions.specs.declared.options.Optional.{Optional}
-use Rattle.definitions.specs.declared.options.Optional.TheVariants.{Absent, Present}
+use Rattle.definitions.specs.declared.options.Form.{Form}
+use Rattle.definitions.specs.declared.options.InvalidPart.{InvalidPart}
 use Rattle.definitions.specs.declared.options.Options.{Options}
-use Rattle.definitions.specs.declared.options.PragmaRead.{PragmaRead}
-use Rattle.definitions.specs.declared.options.PragmaRead.TheVariants as pragma
 use Rattle.definitions.specs.declared.options.Settings.{Settings}
 use Rattle.definitions.specs.declared.state.State.{State}
 use Rattle.definitions.specs.declared.state.Stepped.{Stepped}
-use Rattle.definitions.specs.Judging.{Parsed, from, Judged, accepted, refused, read}
+use Rattle.definitions.specs.Judging.{Parsed, from, error_place, Judged, accepted, refused, read}
 use Rattle.definitions.specs.Options.{flags_of, conform}
 use Rattle.definitions.specs.Comments.{with_comments}
 use Rattle.definitions.specs.Opening.{Opening, bare, options_from, read_opening, options_of, judge_options}
 use Rattle.definitions.specs.States.{borne_out}
-use Rattle.definitions.specs.Entries.{no_record, OpeningOutcome}
+use Rattle.definitions.specs.Entries.{no_record, no_job, OpeningOutcome}
 use Rattle.comments.specs.Tapes.{comments_of}
-use Rattle.settings.specs.declared.opening.Next.{Next}
-use Rattle.settings.specs.declared.opening.Next.TheVariants as next
-use Rattle.settings.specs.declared.opening.OpeningRead.{OpeningRead}
-use Rattle.settings.specs.declared.opening.OpeningRead.TheVariants as outcome
+use Rattle.settings.specs.declared.opening.TapeError.{TapeError}
+
+abbrev pub fault_at : Fault → ℕ → TapeError
+fault_at f i = record { fault = f; place = i }
 
 -- the options before the comments
 unfoldable pub options_before : Opening → Options
@@ -35,46 +37,48 @@ options_before o =
       pragma = o.pragma;
       pragma_frag = o.pragma_frag;
       import_source = o.import_source;
-      ts_pragma = Absent;
-      ts_pragma_frag = Absent;
+      ts_pragma = None;
+      ts_pragma_frag = None;
     }
 
--- a command with a span: it is in order, and the options are these after it, or it isn't
-unfoldable pub spanned_by : Bounds → ℕ → Options → Next
-spanned_by bounds.Outside last p = next.Stop Outside 0
-spanned_by bounds.Cuts last p = next.Stop Cuts 0
-spanned_by bounds.Empty last p = next.More last p
-spanned_by bounds.Good last p = next.More last p
+-- a span that may be empty is in order, or it isn't
+unfoldable pub checked : Bounds → Result ⊤ TapeError
+checked bounds.Outside = Err (fault_at Outside 0)
+checked bounds.Cuts = Err (fault_at Cuts 0)
+checked bounds.Empty = Ok tt
+checked bounds.Good = Ok tt
 
--- options with these for the three that a tape can give
-abbrev pub with_given : Options → Optional → Optional → Optional → Options
-with_given p pragma frag source =
-    record {
-      flags = p.flags;
-      pragma = pragma;
-      pragma_frag = frag;
-      import_source = source;
-      ts_pragma = p.ts_pragma;
-      ts_pragma_frag = p.ts_pragma_frag;
-    }
+unfoldable pub span_of : OptionCommand → Span
+span_of (option.Pragma s) = s
+span_of (option.PragmaFrag s) = s
+span_of (option.ImportSource s) = s
+span_of (option.Comment s) = s
+
+-- the last option's byte and the options behind a command
+unfoldable pub with_option : Options → OptionCommand → ℕ × Options
+with_option p (option.Pragma s) = (0x62, record p { pragma = Some s })
+with_option p (option.PragmaFrag s) = (0x63, record p { pragma_frag = Some s })
+with_option p (option.ImportSource s) = (0x64, record p { import_source = Some s })
+with_option p (option.Comment s) = (0x64, p)
+
+-- what stands behind a span: the next, where it is in order
+unfoldable pub spanned_by : Result ⊤ TapeError → ℕ × Options → Result (Option (ℕ × Options)) TapeError
+spanned_by (Ok _) next = Ok (Some next)
+spanned_by (Err e) next = Err e
 
 -- the command at the front of t, the options before it being p
-unfoldable pub next_by : List ℕ → List ℕ → Options → OptionCommand → Next
-next_by text t p option.End = next.End
-next_by text t p option.Wrong = next.Stop Grammar 0
-next_by text t p option.Cut = next.Stop Grammar (length t)
-next_by text t p (option.Pragma s) = spanned_by (bounds_of text s) 0x62 (with_given p (Present s) p.pragma_frag p.import_source)
-next_by text t p (option.PragmaFrag s) = spanned_by (bounds_of text s) 0x63 (with_given p p.pragma (Present s) p.import_source)
-next_by text t p (option.ImportSource s) = spanned_by (bounds_of text s) 0x64 (with_given p p.pragma p.pragma_frag (Present s))
-next_by text t p (option.Comment s) = spanned_by (bounds_of text s) 0x64 p
+unfoldable pub next_by : List ℕ → List ℕ → Options → Result (Option OptionCommand) CommandError → Result (Option (ℕ × Options)) TapeError
+next_by text t p (Ok None) = Ok None
+next_by text t p (Ok (Some c)) = spanned_by (checked (bounds_of text (span_of c))) (with_option p c)
+next_by text t p (Err e) = Err (fault_at Grammar (error_place t e))
 
 -- the options that reading gives
 unfoldable pub judged_options : List ℕ → Parsed Opening → Judged Options
 judged_options text r = read r (λ o. accepted (options_of text o))
 
-unfoldable pub judged_by : List ℕ → List ℕ → OpeningRead → Judged Options
-judged_by text tape (outcome.Done p) = accepted (with_comments text p (comments_of (drop 3 tape)))
-judged_by text tape (outcome.Stop f i) = refused (refusal.Tape f i)
+unfoldable pub judged_by : List ℕ → List ℕ → Result Options TapeError → Judged Options
+judged_by text tape (Ok p) = accepted (with_comments text p (comments_of (drop 3 tape)))
+judged_by text tape (Err e) = refused (refusal.Tape e.fault e.place)
 
 -- behind the flags n
 abbrev pub behind_flags : List ℕ → List ℕ → ℕ → Parsed Opening
@@ -96,12 +100,16 @@ pub record Borne (text : List ℕ) (o : Options) : Type 0 where
   pub frag : borne_out text o.pragma_frag ≡ true
 
 -- the part of a pragma that fails is a span
-unfoldable pub Spanned : PragmaRead → Type 0
-Spanned pragma.Absent = 0 ≤ 65535
-Spanned (pragma.Valid f) = 0 ≤ 65535
-Spanned (pragma.Invalid i n) = i + n ≤ 65535
+unfoldable pub Spanned : Result (Option Form) InvalidPart → Type 0
+Spanned (Ok f) = 0 ≤ 65535
+Spanned (Err p) = p.place + p.len ≤ 65535
 
--- the answer with the state, and the notice target after, are those of an outcome
-pub record Opened (o : OpeningOutcome) (stepped : Stepped) (notices : List ℕ) : Type 0 where
-  pub answered : stepped ≡ o.stepped
+-- the answer with the state: of settings and a notice fill, or of a refusal
+unfoldable pub answered_by : Result (Settings × ℕ) Refusal → Stepped
+answered_by (Ok p) = record { answer = Ok tt; state = state_with p.0 0 p.1 }
+answered_by (Err r) = record { answer = Err r; state = no_job }
+
+-- the answer, and the notice target after, are those of an outcome
+pub record Opened (o : OpeningOutcome) (r : Result (Settings × ℕ) Refusal) (notices : List ℕ) : Type 0 where
+  pub answered : answered_by r ≡ o.stepped
   pub noticed : notices ≡ o.notices

@@ -1,19 +1,11 @@
 // What `JsxImpl::new` decides (jsx_impl.rs).
 ghost use Rattle.std.specs.Prelude.{◌≡◌};
-ghost use Rattle.definitions.specs.Opening.{is_absent, mode_of, settings_with};
+ghost use Rattle.definitions.specs.Opening.{mode_of, settings_with};
 
-use definitions::options::{Flags, Mode, Optional, Options, PragmaRead, Settings};
+use definitions::options::{Flags, Form, InvalidPart, Mode, Options, Settings};
 use pragma::form_by;
 
-fn is_absent(o: Optional) -> bool
-    ensures { result ≡ is_absent o }
-{
-    match o {
-        Optional::Absent => true,
-        Optional::Present(_) => false,
-    }
-}
-
+#[tactic(auto, unfolding(definitions::specs::Opening::mode_of))]
 pub fn mode_of(f: Flags) -> Mode
     ensures { result ≡ mode_of f }
 {
@@ -27,18 +19,19 @@ pub fn mode_of(f: Flags) -> Mode
 }
 
 // The settings, with both pragmas as they were read under the mode of these options.
-pub fn new(options: Options, read: PragmaRead, read_frag: PragmaRead) -> Settings
+pub fn new(
+    options: Options,
+    read: Result<Option<Form>, InvalidPart>,
+    read_frag: Result<Option<Form>, InvalidPart>,
+) -> Settings
     ensures { result ≡ settings_with options read read_frag }
 {
-    let flags = options.flags;
-    let pragma = options.pragma;
-    let import_source = options.import_source;
     // only where all that concerns it is left at its default, or where it is asked for
-    let pure = flags.pure | (is_absent(import_source) & is_absent(pragma));
+    let pure = options.flags.pure | (options.import_source.is_none() & options.pragma.is_none());
     Settings {
-        options: options,
-        pure: pure,
-        mode: mode_of(flags),
+        options,
+        pure,
+        mode: mode_of(options.flags),
         pragma: form_by(read),
         pragma_frag: form_by(read_frag),
     }

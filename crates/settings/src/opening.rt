@@ -1,218 +1,213 @@
 // Opening a job. Opening tape: 61 flags u16; then at most one each, in this order, of 62 pragma S, 63 pragmaFrag S, 64 importSource S;
 // then any number of 60 comment S.
-ghost use Rattle.std.specs.Prelude.{◌≡◌, ◌≤◌, ◌^◌, length};
+ghost use Rattle.std.specs.Prelude.{◌≡◌, ◌+◌, ◌≤◌, ◌<◌, ◌^◌, length};
 ghost use Rattle.commands.specs.Opening.{option_command};
-ghost use Rattle.text.specs.declared.bytes.Found.TheVariants.{Nothing};
 ghost use Rattle.text.specs.Spans.{bounds_of};
 ghost use Rattle.text.specs.Utf8.{first_ill};
 ghost use Rattle.tape.specs.Targets.{Wrote};
-ghost use Rattle.definitions.specs.declared.state.Answer.TheVariants as answer;
+ghost use Rattle.definitions.specs.Judging.{error_place};
 ghost use Rattle.definitions.specs.Calls.{notice_bytes};
-ghost use Rattle.definitions.specs.Opening.{bare, read_opening, settings_of, pragma_notice, notices_fitted, judge_options};
-ghost use Rattle.definitions.specs.Entries.{no_job, opened_by, opened};
-ghost use Rattle.settings.specs.Tapes.{options_before, with_given, spanned_by, next_by, judged_options, judged_by, behind_flags, state_with, opened_tape, Borne, Spanned, Opened};
+ghost use Rattle.definitions.specs.Opening.{bare, read_opening, settings_of, pragma_notice, notices_fitted, judge_options, judge_opening};
+ghost use Rattle.definitions.specs.Entries.{opened_by, opened};
+ghost use Rattle.settings.specs.Tapes.{fault_at, options_before, checked, span_of, with_option, next_by, judged_options, judged_by, behind_flags, state_with, answered_by, opened_tape, Borne, Spanned, Opened};
 
 use crate::jsx_impl::{mode_of, new};
-use commands::opening::{FlagsCommand, OptionCommand, flags_command_at, option_command_at};
+use commands::error::CommandError;
+use commands::opening::{OptionCommand, flags_command_at, option_command_at};
 use commands::{codes, sizes};
 use comments::update_options_with_comments;
-use definitions::options::{Optional, Options, PragmaRead, Settings};
+use definitions::options::{Form, InvalidPart, Options, Settings};
 use definitions::record_tape::INVALID_PRAGMA;
 use definitions::records::{Import, Record};
-use definitions::state::{Answer, State, Stepped};
+use definitions::state::{State, Stepped};
 use option_values::{conform, flags_of};
 use pragma::{over_ascii_under, pragma_under};
 use tape::limits::MAX_LENGTH;
 use tape::refusal::{Fault, Refusal};
 use tape::target::{put, put_span};
-use text::bytes::Found;
 use text::spans::{Bounds, Span, span_bounds};
 use text::utf8::first_ill_formed;
 
-// What the command at the front of a tape comes to: its end, a fault and its place, or the options behind it with the last option's byte.
+// A fault, and the place that is told with it, counted from the front of what was read.
 #[derive(Clone, Copy)]
-enum Next {
-    End,
-    Stop(Fault, usize),
-    More(u8, Options),
-}
-
-// The options that a tape gives before its comments, or its first fault and the fault's place.
-#[derive(Clone, Copy)]
-enum OpeningRead {
-    Done(Options),
-    Stop(Fault, usize),
+struct TapeError {
+    fault: Fault,
+    place: usize,
 }
 
 // ---- reading the tape
 
-fn spanned(text: &[u8], span: Span, last: u8, options: Options) -> Next
-    ensures { result ≡ spanned_by (bounds_of text.now span) last options }
+// A command that can't be read.
+#[tactic(auto, unfolding(definitions::specs::Judging::error_place))]
+fn unreadable(tape: &[u8], error: CommandError) -> TapeError
+    ensures { result ≡ fault_at Fault.Grammar (error_place tape.now error) }
+{
+    let place = match error {
+        CommandError::Wrong | CommandError::Bad => 0,
+        CommandError::Cut => tape.len(),
+    };
+    TapeError {
+        fault: Fault::Grammar,
+        place,
+    }
+}
+
+// A span may be empty here.
+#[tactic(auto, unfolding(crate::specs::Tapes::checked))]
+fn check_span(text: &[u8], span: Span) -> Result<(), TapeError>
+    ensures { result ≡ checked (bounds_of text.now span) }
 {
     match span_bounds(text, span) {
-        Bounds::Outside => Next::Stop(Fault::Outside, 0),
-        Bounds::Cuts => Next::Stop(Fault::Cuts, 0),
-        Bounds::Empty => Next::More(last, options),
-        Bounds::Good => Next::More(last, options),
+        Bounds::Outside => Err(TapeError {
+            fault: Fault::Outside,
+            place: 0,
+        }),
+        Bounds::Cuts => Err(TapeError {
+            fault: Fault::Cuts,
+            place: 0,
+        }),
+        Bounds::Empty | Bounds::Good => Ok(()),
     }
 }
 
-// The options with these for the three that a tape can give.
-fn with_given(
-    options: Options,
-    pragma: Optional,
-    pragma_frag: Optional,
-    import_source: Optional,
-) -> Options
-    ensures { result ≡ with_given options pragma pragma_frag import_source }
+#[tactic(auto, unfolding(crate::specs::Tapes::span_of))]
+fn span_of(command: OptionCommand) -> Span
+    ensures { result ≡ span_of command }
 {
-    let flags = options.flags;
-    let ts_pragma = options.ts_pragma;
-    let ts_pragma_frag = options.ts_pragma_frag;
-    Options {
-        flags: flags,
-        pragma: pragma,
-        pragma_frag: pragma_frag,
-        import_source: import_source,
-        ts_pragma: ts_pragma,
-        ts_pragma_frag: ts_pragma_frag,
+    match command {
+        OptionCommand::Pragma(s)
+        | OptionCommand::PragmaFrag(s)
+        | OptionCommand::ImportSource(s)
+        | OptionCommand::Comment(s) => s,
     }
 }
 
-// A comment leaves the options as they are: comments are applied when the whole tape is in order.
-fn next_command(text: &[u8], last: u8, options: Options, tape: &[u8]) -> Next
+// The last option's byte and the options behind a command. A comment leaves the options as they are: comments are applied when the whole tape is in order.
+#[tactic(auto, unfolding(crate::specs::Tapes::with_option))]
+fn with_option(options: Options, command: OptionCommand) -> (u8, Options)
+    ensures { result ≡ with_option options command }
+{
+    match command {
+        OptionCommand::Pragma(s) => (
+            codes::PRAGMA,
+            Options {
+                pragma: Some(s),
+                ..options
+            },
+        ),
+        OptionCommand::PragmaFrag(s) => (
+            codes::PRAGMA_FRAG,
+            Options {
+                pragma_frag: Some(s),
+                ..options
+            },
+        ),
+        OptionCommand::ImportSource(s) => (
+            codes::IMPORT_SOURCE,
+            Options {
+                import_source: Some(s),
+                ..options
+            },
+        ),
+        OptionCommand::Comment(_) => (codes::IMPORT_SOURCE, options),
+    }
+}
+
+// What the command at the front of a tape comes to; none at the tape's end.
+// kept: the last option is told by its byte, as `option_command_at` takes it: an enum would ask more of that function's callers
+#[tactic(auto, unfolding(crate::specs::Tapes::next_by, crate::specs::Tapes::spanned_by, crate::specs::Tapes::checked))]
+fn next_command(
+    text: &[u8],
+    last: u8,
+    options: Options,
+    tape: &[u8],
+) -> Result<Option<(u8, Options)>, TapeError>
     ensures { result ≡ next_by text.now tape.now options (option_command last tape.now) }
 {
-    let pragma = options.pragma;
-    let pragma_frag = options.pragma_frag;
-    let import_source = options.import_source;
-    match option_command_at(last, tape) {
-        OptionCommand::End => Next::End,
-        OptionCommand::Wrong => Next::Stop(Fault::Grammar, 0),
-        OptionCommand::Cut => Next::Stop(Fault::Grammar, tape.len()),
-        OptionCommand::Pragma(s) => {
-            let given = with_given(options, Optional::Present(s), pragma_frag, import_source);
-            spanned(text, s, codes::PRAGMA, given)
-        }
-        OptionCommand::PragmaFrag(s) => {
-            let given = with_given(options, pragma, Optional::Present(s), import_source);
-            spanned(text, s, codes::PRAGMA_FRAG, given)
-        }
-        OptionCommand::ImportSource(s) => {
-            let given = with_given(options, pragma, pragma_frag, Optional::Present(s));
-            spanned(text, s, codes::IMPORT_SOURCE, given)
-        }
-        OptionCommand::Comment(s) => spanned(text, s, codes::IMPORT_SOURCE, options),
-    }
+    let command = match option_command_at(last, tape) {
+        Ok(Some(command)) => command,
+        Ok(None) => return Ok(None),
+        Err(error) => return Err(unreadable(tape, error)),
+    };
+    check_span(text, span_of(command))?;
+    Ok(Some(with_option(options, command)))
 }
 
 // Flags and nothing else.
+#[tactic(auto, unfolding(crate::specs::Tapes::options_before))]
 fn bare_options(n: u16) -> Options
     ensures { result ≡ options_before (bare n) }
 {
     Options {
         flags: conform(flags_of(n)),
-        pragma: Optional::Absent,
-        pragma_frag: Optional::Absent,
-        import_source: Optional::Absent,
-        ts_pragma: Optional::Absent,
-        ts_pragma_frag: Optional::Absent,
+        pragma: None,
+        pragma_frag: None,
+        import_source: None,
+        ts_pragma: None,
+        ts_pragma_frag: None,
     }
 }
 
-// The commands behind the flags n.
-fn read_options(text: &[u8], n: u16, tape: &[u8]) -> OpeningRead
+// The options that the commands behind the flags n give, before the comments.
+// kept: no iterator gives the commands: each is read by the last option before it, and a fault is told by its place
+#[tactic(auto, using(text::proofs::Lists::tail_part, crate::proofs::Commands::begin, crate::proofs::Commands::fault_inside, crate::proofs::Commands::at_fault), unfolding(crate::specs::Tapes::judged_by))]
+fn read_options(text: &[u8], n: u16, tape: &[u8]) -> Result<Options, TapeError>
     requires { 3 ≤ length tape.now }
     ensures { judged_options text.now (behind_flags text.now tape.now n) ≡ judged_by text.now tape.now result }
 {
     let mut options = bare_options(n);
-    let mut last: u8 = codes::FLAGS;
-    let mut i = sizes::WITH_FLAGS;
+    let mut last = codes::FLAGS;
+    let mut front = sizes::WITH_FLAGS;
     loop {
-        match next_command(text, last, options, &tape[i..]) {
-            Next::End => return OpeningRead::Done(options),
-            Next::Stop(fault, place) => return OpeningRead::Stop(fault, i + place),
-            Next::More(next, behind) => {
+        match next_command(text, last, options, &tape[front..]) {
+            Ok(None) => return Ok(options),
+            Ok(Some((next, behind))) => {
                 last = next;
                 options = behind;
-                i += sizes::WITH_SPAN;
+                front += sizes::WITH_SPAN;
             }
+            Err(TapeError { fault, place }) => return Err(TapeError {
+                fault,
+                place: front + place,
+            }),
         }
     }
 }
 
-fn read_opening(text: &[u8], tape: &[u8]) -> OpeningRead
+#[tactic(auto, unfolding(crate::specs::Tapes::judged_options, crate::specs::Tapes::judged_by, definitions::specs::Opening::read_opening, definitions::specs::Opening::opening_by, definitions::specs::Judging::read))]
+fn read_opening(text: &[u8], tape: &[u8]) -> Result<Options, TapeError>
     ensures { judged_options text.now (read_opening text.now tape.now) ≡ judged_by text.now tape.now result }
 {
     match flags_command_at(tape) {
-        FlagsCommand::Wrong => OpeningRead::Stop(Fault::Grammar, 0),
-        FlagsCommand::Cut => OpeningRead::Stop(Fault::Grammar, tape.len()),
-        FlagsCommand::Bad => OpeningRead::Stop(Fault::Grammar, 0),
-        FlagsCommand::Flags(n) => read_options(text, n, tape),
+        Ok(n) => read_options(text, n, tape),
+        Err(error) => Err(unreadable(tape, error)),
     }
 }
 
-// ---- the answer
-
-fn no_records(settings: Settings, count: usize, notices: usize) -> State
-    ensures { result ≡ state_with settings count notices }
-{
-    State {
-        settings: settings,
-        records: [Record {
-            import: Import::FileName,
-            binding: 0,
-        }; 8],
-        count: count,
-        calls: 0,
-        notices: notices,
-    }
-}
-
-fn refused(why: Refusal) -> Stepped
-    ensures { result ≡ record { answer = answer.Refused why; state = no_job } }
-{
-    let settings = new(bare_options(0), PragmaRead::Absent, PragmaRead::Absent);
-    // over 8 records: every entry refuses this state as forged
-    let state = no_records(settings, 9, 0);
-    Stepped {
-        answer: Answer::Refused(why),
-        state: state,
-    }
-}
-
-fn accepted(settings: Settings, notices: usize) -> Stepped
-    ensures { result ≡ record { answer = answer.Accepted; state = state_with settings 0 notices } }
-{
-    let state = no_records(settings, 0, notices);
-    Stepped {
-        answer: Answer::Accepted,
-        state: state,
-    }
-}
+// ---- the notices
 
 // How many bytes a pragma's notice takes.
-fn notice_size(read: PragmaRead) -> usize
+#[tactic(auto, unfolding(definitions::specs::Opening::pragma_notice, definitions::specs::Calls::notice_bytes, definitions::specs::Calls::notice_bytes_of))]
+fn notice_size(read: Result<Option<Form>, InvalidPart>) -> usize
     ensures { result ≡ length (notice_bytes (pragma_notice read)) }
 {
     match read {
-        PragmaRead::Absent => 0,
-        PragmaRead::Valid(_) => 0,
-        PragmaRead::Invalid(_, _) => sizes::WITH_SPAN,
+        Ok(_) => 0,
+        Err(_) => sizes::WITH_SPAN,
     }
 }
 
-fn put_notice(notices: &mut [u8], at: usize, read: PragmaRead) -> usize
+#[tactic(auto, using(tape::proofs::Targets::wrote_nothing), unfolding(crate::specs::Tapes::Spanned, definitions::specs::Opening::pragma_notice, definitions::specs::Calls::notice_bytes))]
+fn put_notice(notices: &mut [u8], at: usize, read: Result<Option<Form>, InvalidPart>) -> usize
     requires at_bound { at ≤ 2 ^ 63 }
     requires spanned { Spanned read }
     ensures { Wrote notices.old notices.new at result (notice_bytes (pragma_notice read)) }
 {
     match read {
-        PragmaRead::Absent => at,
-        PragmaRead::Valid(_) => at,
-        PragmaRead::Invalid(start, len) => {
+        Ok(_) => at,
+        Err(InvalidPart { place, len }) => {
             let span = Span {
-                start: start as u16,
+                start: place as u16,
                 len: len as u16,
             };
             let behind = put(notices, at, INVALID_PRAGMA);
@@ -221,57 +216,114 @@ fn put_notice(notices: &mut [u8], at: usize, read: PragmaRead) -> usize
     }
 }
 
+// ---- the answer
+
 // A job with these options, none of whose pragmas has a byte over 7F: its notices are written where they fit.
-fn open_noticed(text: &[u8], options: Options, notices: &mut [u8]) -> Stepped
+#[tactic(auto, using(crate::proofs::Noticing::spanned_under, tape::proofs::Targets::wrote_small, definitions::proofs::OpeningNotices::notice_few))]
+fn open_noticed(
+    text: &[u8],
+    options: Options,
+    notices: &mut [u8],
+) -> Result<(Settings, usize), Refusal>
     requires text_len_bound { length text.now ≤ 65535 }
     requires borne { Borne text.now options }
     ensures { Opened (opened_by text.now notices.old (notices_fitted text.now (length notices.old) (settings_of text.now options))) result notices.new }
 {
-    let flags = options.flags;
-    let pragma = options.pragma;
-    let pragma_frag = options.pragma_frag;
-    let mode = mode_of(flags);
-    let read = pragma_under(mode, text, pragma);
-    let read_frag = pragma_under(mode, text, pragma_frag);
+    let mode = mode_of(options.flags);
+    let read = pragma_under(mode, text, options.pragma);
+    let read_frag = pragma_under(mode, text, options.pragma_frag);
     let size = notice_size(read) + notice_size(read_frag);
     if notices.len() < size {
-        return refused(Refusal::NoticeSpace(size));
+        return Err(Refusal::NoticeSpace(size));
     }
     let behind = put_notice(notices, 0, read);
     put_notice(notices, behind, read_frag);
-    accepted(new(options, read, read_frag), size)
+    Ok((new(options, read, read_frag), size))
 }
 
-fn open_options(text: &[u8], options: Options, notices: &mut [u8]) -> Stepped
+#[tactic(auto, using(crate::proofs::Noticing::found_under), unfolding(definitions::specs::Opening::pragmas_checked, definitions::specs::Opening::settings_of, definitions::specs::Judging::refuse_at, definitions::specs::Entries::opened_by, crate::specs::Tapes::answered_by))]
+fn open_options(
+    text: &[u8],
+    options: Options,
+    notices: &mut [u8],
+) -> Result<(Settings, usize), Refusal>
     requires text_len_bound { length text.now ≤ 65535 }
     requires borne { Borne text.now options }
     ensures { Opened (opened_by text.now notices.old (judge_options text.now (length notices.old) options)) result notices.new }
 {
-    let flags = options.flags;
-    let pragma = options.pragma;
-    let pragma_frag = options.pragma_frag;
-    let mode = mode_of(flags);
-    match over_ascii_under(mode, text, pragma) {
-        Found::At(place) => refused(Refusal::PragmaByte(place)),
-        Found::Nothing => match over_ascii_under(mode, text, pragma_frag) {
-            Found::At(place) => refused(Refusal::PragmaByte(place)),
-            Found::Nothing => open_noticed(text, options, notices),
-        },
+    let mode = mode_of(options.flags);
+    if let Some(place) = over_ascii_under(mode, text, options.pragma) {
+        return Err(Refusal::PragmaByte(place));
     }
+    if let Some(place) = over_ascii_under(mode, text, options.pragma_frag) {
+        return Err(Refusal::PragmaByte(place));
+    }
+    open_noticed(text, options, notices)
 }
 
 // A text that is not too long and is UTF-8.
-fn open_text(text: &[u8], tape: &[u8], notices: &mut [u8]) -> Stepped
+#[tactic(auto, using(crate::proofs::Commands::tape_refused, crate::proofs::Commands::tape_read, crate::proofs::Commands::tape_borne), unfolding(definitions::specs::Entries::opened_by, crate::specs::Tapes::answered_by))]
+fn open_text(text: &[u8], tape: &[u8], notices: &mut [u8]) -> Result<(Settings, usize), Refusal>
     requires text_len_bound { length text.now ≤ 65535 }
-    requires well_formed { first_ill text.now ≡ Nothing }
+    requires well_formed { first_ill text.now ≡ None }
     ensures { Opened (opened_by text.now notices.old (opened_tape text.now tape.now (length notices.old))) result notices.new }
 {
     match read_opening(text, tape) {
-        OpeningRead::Stop(fault, place) => refused(Refusal::Tape(fault, place)),
-        OpeningRead::Done(options) => {
-            let commented = update_options_with_comments(text, options, tape);
-            open_options(text, commented, notices)
-        }
+        Ok(options) => open_options(
+            text,
+            update_options_with_comments(text, options, tape),
+            notices,
+        ),
+        Err(TapeError { fault, place }) => Err(Refusal::Tape(fault, place)),
+    }
+}
+
+// The settings of a job and its notice fill.
+#[tactic(auto, unfolding(definitions::specs::Entries::opened, definitions::specs::Opening::judge_opening, definitions::specs::Judging::refuse, definitions::specs::Judging::refuse_at, definitions::specs::Entries::opened_by, crate::specs::Tapes::opened_tape, crate::specs::Tapes::answered_by))]
+fn open(text: &[u8], tape: &[u8], notices: &mut [u8]) -> Result<(Settings, usize), Refusal>
+    ensures { Opened (opened text.now tape.now notices.old) result notices.new }
+{
+    if MAX_LENGTH < text.len() {
+        return Err(Refusal::TooLong);
+    }
+    if MAX_LENGTH < tape.len() {
+        return Err(Refusal::TooLong);
+    }
+    if let Some(place) = first_ill_formed(text) {
+        return Err(Refusal::NotUtf8(place));
+    }
+    open_text(text, tape, notices)
+}
+
+fn no_records(settings: Settings, count: usize, notices: usize) -> State
+    ensures { result ≡ state_with settings count notices }
+{
+    State {
+        settings,
+        records: [Record {
+            import: Import::FileName,
+            binding: 0,
+        }; 8],
+        count,
+        calls: 0,
+        notices,
+    }
+}
+
+#[tactic(auto, unfolding(crate::specs::Tapes::answered_by, definitions::specs::Opening::settings_of, definitions::specs::Opening::pragma_under, definitions::specs::Opening::mode_of, crate::specs::Tapes::options_before, definitions::specs::Options::conform, definitions::specs::Options::flags_of))]
+fn answered(opened: Result<(Settings, usize), Refusal>) -> Stepped
+    ensures { result ≡ answered_by opened }
+{
+    match opened {
+        Ok((settings, notices)) => Stepped {
+            answer: Ok(()),
+            state: no_records(settings, 0, notices),
+        },
+        // over 8 records: every entry refuses this state as forged
+        Err(why) => Stepped {
+            answer: Err(why),
+            state: no_records(new(bare_options(0), Ok(None), Ok(None)), 9, 0),
+        },
     }
 }
 
@@ -280,14 +332,5 @@ pub fn open_job(text: &[u8], tape: &[u8], notices: &mut [u8]) -> Stepped
     ensures value { result ≡ (opened text.now tape.now notices.old).stepped }
     ensures notices_after { notices.new ≡ (opened text.now tape.now notices.old).notices }
 {
-    if MAX_LENGTH < text.len() {
-        return refused(Refusal::TooLong);
-    }
-    if MAX_LENGTH < tape.len() {
-        return refused(Refusal::TooLong);
-    }
-    match first_ill_formed(text) {
-        Found::At(place) => refused(Refusal::NotUtf8(place)),
-        Found::Nothing => open_text(text, tape, notices),
-    }
+    answered(open(text, tape, notices))
 }

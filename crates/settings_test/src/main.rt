@@ -11,81 +11,59 @@
 ghost use Rattle.std.specs.Prelude.{◌≤◌, ◌<◌, length};
 
 use commands::codes;
-use definitions::options::{Flags, Form, Mode, Optional, PragmaRoot, Settings};
-use definitions::state::Answer;
-use files::{print_byte, print_decimal, read_full};
+use definitions::options::{Flags, Form, Mode, PragmaRoot, Settings};
+use files::read_full;
 use settings::opening::open_job;
 use std::io;
 use std::io::{Result, Write};
-use tape::refusal::{figure, number};
-use text::spans::part;
+use tape::target::Encode;
+use text::spans::{Span, part};
 
 // ---- reading
 
-// One byte more, where there is room.
-fn put(out: &mut [u8], at: usize, b: u8) -> usize
-    requires { at ≤ length out.old }
-    ensures { result ≤ length out.new }
-{
-    if at < out.len() {
-        out[at] = b;
-        return at + 1;
-    }
-    at
+// The front of a buffer into which so many bytes were put, as far as it has room.
+fn filled<'a>(buffer: &'a [u8], size: usize) -> &'a [u8] {
+    &buffer[..size.min(buffer.len())]
 }
 
 // A command with a span of the text.
-fn put_command(tape: &mut [u8], at: usize, command: u8, start: usize, end: usize) -> usize
-    requires { at ≤ length tape.old }
-    ensures { result ≤ length tape.new }
-{
-    let mut len = 0;
-    if start < end {
-        len = end - start;
-    }
-    let a = put(tape, at, command);
-    let b = put(tape, a, (start % 256) as u8);
-    let c = put(tape, b, (start / 256 % 256) as u8);
-    let d = put(tape, c, (len % 256) as u8);
-    put(tape, d, (len / 256 % 256) as u8)
+fn put_command(tape: &mut [u8], at: usize, command: u8, start: usize, end: usize) -> usize {
+    let span = Span {
+        start: (start % 65536) as u16,
+        len: (end.saturating_sub(start) % 65536) as u16,
+    };
+    let next = command.encode(tape, at);
+    span.encode(tape, next)
 }
 
 // The byte for the first letter of a command's word; 0 for any other, which no tape has.
-fn command_of(letter: u8) -> u8 {
+fn command_of(letter: Option<u8>) -> u8 {
     match letter {
-        b'c' => codes::COMMENT,
-        b'p' => codes::PRAGMA,
-        b'f' => codes::PRAGMA_FRAG,
-        b'i' => codes::IMPORT_SOURCE,
+        Some(b'c') => codes::COMMENT,
+        Some(b'p') => codes::PRAGMA,
+        Some(b'f') => codes::PRAGMA_FRAG,
+        Some(b'i') => codes::IMPORT_SOURCE,
         _ => 0,
     }
 }
 
+// What a hexadecimal digit counts; any other byte counts nothing.
 fn digit(b: u8) -> u8
     ensures { result < 16 }
 {
-    if b >= b'0' {
-        if b <= b'9' {
-            return b - b'0';
-        }
+    match b {
+        b'0'..=b'9' => b - b'0',
+        b'a'..=b'f' => b - b'a' + 10,
+        _ => 0,
     }
-    if b >= b'a' {
-        if b <= b'f' {
-            return b - b'a' + 10;
-        }
-    }
-    0
 }
 
-// The byte of the two hexadecimal digits at a place; 0 past the end.
-fn byte_at(line: &[u8], i: usize) -> u8 {
-    if i >= line.len() {
-        return 0;
+// The byte of the two hexadecimal digits in front; 0 where they are cut off.
+fn byte_of(line: &[u8]) -> u8 {
+    match line {
+        [high, low, ..] => digit(*high) * 16 + digit(*low),
+        _ => 0,
     }
-    if line.len() - i < 2 {
-        return 0;
-    }
-    digit(line[i]) * 16 + digit(line[i + 1])
 }
 
 // The byte that an escape stands for, by the letter behind the backslash.
@@ -100,60 +78,42 @@ fn escaped(letter: u8) -> u8 {
     }
 }
 
-// Where reading goes on, in the line and in the text.
-#[derive(Clone, Copy)]
-struct Places {
-    line: usize,
-    text: usize,
-}
-
-// Copies what stands in quotes, from behind the first one on.
-fn read_quoted(line: &[u8], from: usize, text: &mut [u8], to: usize) -> Places
-    requires { to ≤ length text.old }
-    ensures { (from ≤ result.line) × (result.text ≤ length text.new) }
+// Copies what stands in quotes, of which the first is passed, and tells what stands behind the last, and where the text goes on.
+fn read_quoted<'a>(line: &'a [u8], text: &mut [u8], to: usize) -> (&'a [u8], usize)
+    ensures { length result.0.now ≤ length line.now }
 {
-    let mut i = from;
+    let mut left = line;
     let mut at = to;
-    while i < line.len() {
-        let b = line[i];
-        i += 1;
-        if b == b'"' {
-            return Places { line: i, text: at };
+    while let [b, behind @ ..] = left {
+        left = behind;
+        match *b {
+            b'"' => break,
+            b'\\' => {
+                let [letter, behind @ ..] = left else {
+                    break;
+                };
+                left = behind;
+                if *letter == b'x' {
+                    at = byte_of(left).encode(text, at);
+                    left = &left[left.len().min(2)..];
+                } else {
+                    at = escaped(*letter).encode(text, at);
+                }
+            }
+            _ => at = (*b).encode(text, at),
         }
-        if b != b'\\' {
-            at = put(text, at, b);
-            continue;
-        }
-        if i >= line.len() {
-            return Places { line: i, text: at };
-        }
-        let letter = line[i];
-        i += 1;
-        if letter == b'x' {
-            at = put(text, at, byte_at(line, i));
-            i += 2;
-            continue;
-        }
-        at = put(text, at, escaped(letter));
     }
-    Places { line: i, text: at }
+    (left, at)
 }
 
 // The size of the notice target, which the end of a line may say: room for all that an opening tells where it doesn't.
 fn room_of(line: &[u8]) -> usize
     ensures { result ≤ 16 }
 {
-    if line.len() < 2 {
-        return 16;
+    match line {
+        [.., b' ', last] if *last != b'"' => usize::from(digit(*last)),
+        _ => 16,
     }
-    let last = line.len() - 1;
-    if line[last] == b'"' {
-        return 16;
-    }
-    if line[last - 1] != b' ' {
-        return 16;
-    }
-    digit(line[last]) as usize
 }
 
 // How much of the text and of the tape a job takes.
@@ -163,37 +123,33 @@ struct Job {
     tape: usize,
 }
 
-fn read_job(line: &[u8], text: &mut [u8], tape: &mut [u8]) -> Job
-    ensures { (result.text ≤ length text.new) × (result.tape ≤ length tape.new) }
-{
-    let command = put(tape, 0, codes::FLAGS);
-    let low = put(tape, command, byte_at(line, 2));
-    let mut out = put(tape, low, byte_at(line, 0));
+// The flags, then a command for each part in quotes, by the first letter before it.
+fn read_job(flags: u16, line: &[u8], text: &mut [u8], tape: &mut [u8]) -> Job {
+    let mut out = put_flags(tape, flags);
     let mut at = 0;
-    let mut letter: u8 = 0;
-    let mut i = 4;
-    while i < line.len() {
-        let b = line[i];
-        i += 1;
-        if b == b'"' {
-            let read = read_quoted(line, i, text, at);
-            let end = read.text;
+    let mut letter = None;
+    let mut left = line;
+    while let [b, behind @ ..] = left {
+        left = behind;
+        if *b == b'"' {
+            let (behind, end) = read_quoted(left, text, at);
             out = put_command(tape, out, command_of(letter), at, end);
             at = end;
-            i = read.line;
-            letter = 0;
-            continue;
-        }
-        if letter == 0 {
-            if b != b' ' {
-                letter = b;
-            }
+            left = behind;
+            letter = None;
+        } else if letter.is_none() && *b != b' ' {
+            letter = Some(*b);
         }
     }
     Job {
         text: at,
         tape: out,
     }
+}
+
+fn put_flags(tape: &mut [u8], flags: u16) -> usize {
+    let next = codes::FLAGS.encode(tape, 0);
+    flags.encode(tape, next)
 }
 
 // ---- writing
@@ -227,10 +183,10 @@ fn say_mode(out: &mut impl Write, m: Mode) -> Result<()> {
 }
 
 // A value that is present, in quotes.
-fn say_value(out: &mut impl Write, name: &[u8], text: &[u8], o: Optional) -> Result<()> {
+fn say_value(out: &mut impl Write, name: &[u8], text: &[u8], o: Option<Span>) -> Result<()> {
     match o {
-        Optional::Absent => Ok(()),
-        Optional::Present(span) => {
+        None => Ok(()),
+        Some(span) => {
             say(out, name)?;
             say(out, b" \"")?;
             say(out, part(text, span))?;
@@ -241,8 +197,7 @@ fn say_value(out: &mut impl Write, name: &[u8], text: &[u8], o: Optional) -> Res
 
 fn say_root(out: &mut impl Write, words: &[u8], tail: usize) -> Result<()> {
     say(out, words)?;
-    say(out, b" + ")?;
-    print_decimal(out, tail)
+    write!(out, " + {tail}")
 }
 
 // The form of a pragma that is in force and valid.
@@ -279,16 +234,9 @@ fn say_settings(out: &mut impl Write, text: &[u8], s: Settings) -> Result<()> {
     say_value(out, b"; TypeScript fragment", text, ts_pragma_frag)
 }
 
-fn say_byte(out: &mut impl Write, b: u8) -> Result<()> {
-    say(out, b" ")?;
-    print_byte(out, b)
-}
-
 fn say_bytes(out: &mut impl Write, bytes: &[u8]) -> Result<()> {
-    let mut i = 0;
-    while i < bytes.len() {
-        say_byte(out, bytes[i])?;
-        i += 1;
+    for b in bytes {
+        write!(out, " {b:02x}")?;
     }
     Ok(())
 }
@@ -299,22 +247,15 @@ fn say_notices(out: &mut impl Write, notices: &[u8], fill: usize) -> Result<()> 
         return Ok(());
     }
     say(out, b"; notices")?;
-    if fill <= notices.len() {
-        return say_bytes(out, &notices[0..fill]);
+    match notices.get(..fill) {
+        Some(front) => say_bytes(out, front),
+        None => Ok(()),
     }
-    Ok(())
 }
 
 // Whether each byte from this place on is what it was at first.
 fn is_left(target: &[u8], from: usize) -> bool {
-    let mut i = from;
-    while i < target.len() {
-        if target[i] != 0xee {
-            return false;
-        }
-        i += 1;
-    }
-    true
+    target.iter().skip(from).all(|b| *b == 0xee)
 }
 
 // Each byte of the notice target is EE at first.
@@ -324,15 +265,14 @@ fn open_over(out: &mut impl Write, text: &[u8], tape: &[u8], notices: &mut [u8])
     let answer = opened.answer;
     let state = opened.state;
     match answer {
-        Answer::Accepted => {
+        Ok(()) => {
             let settings = state.settings;
             say_settings(out, text, settings)?;
         }
-        Answer::Refused(why) => {
-            say(out, b"refused ")?;
-            print_decimal(out, number(why) as usize)?;
-            say(out, b" ")?;
-            print_decimal(out, figure(why))?;
+        Err(why) => {
+            let number = why.number();
+            let figure = why.figure();
+            write!(out, "refused {number} {figure}")?;
         }
     }
     say_notices(out, notices, state.notices)?;
@@ -348,48 +288,29 @@ fn open(out: &mut impl Write, text: &[u8], tape: &[u8]) -> Result<()> {
 // ---- the jobs
 
 fn run_line(out: &mut impl Write, line: &[u8], text: &mut [u8], tape: &mut [u8]) -> Result<()> {
-    if line.len() < 4 {
+    let [a, b, c, d, words @ ..] = line else {
         return Ok(());
-    }
+    };
     say(out, line)?;
     say(out, b"\n")?;
-    if line[0] == b'#' {
+    if *a == b'#' {
         return Ok(());
     }
-    let job = read_job(line, text, tape);
-    let text_end = job.text;
-    let tape_end = job.tape;
+    let flags = u16::from_be_bytes([byte_of(&[*a, *b]), byte_of(&[*c, *d])]);
+    let job = read_job(flags, words, text, tape);
     let mut notices = [0xee; 16];
     let room = room_of(line);
     open_over(
         out,
-        &text[0..text_end],
-        &tape[0..tape_end],
-        &mut notices[0..room],
+        filled(text, job.text),
+        filled(tape, job.tape),
+        &mut notices[..room],
     )
 }
 
-// The place of the next line feed, or the end.
-fn line_end(input: &[u8], from: usize) -> usize
-    requires { from ≤ length input.now }
-    ensures { (from ≤ result) × (result ≤ length input.now) }
-{
-    let mut i = from;
-    while i < input.len() {
-        if input[i] == b'\n' {
-            return i;
-        }
-        i += 1;
-    }
-    i
-}
-
 fn run_lines(out: &mut impl Write, input: &[u8], text: &mut [u8], tape: &mut [u8]) -> Result<()> {
-    let mut from = 0;
-    while from < input.len() {
-        let end = line_end(input, from);
-        run_line(out, &input[from..end], text, tape)?;
-        from = end + 1;
+    for line in input.split(|b| *b == b'\n') {
+        run_line(out, line, text, tape)?;
     }
     Ok(())
 }
@@ -405,72 +326,46 @@ fn run_long(
     tape: &mut [u8],
 ) -> Result<()> {
     let mut at = 0;
-    let mut i = 0;
-    while i < pairs {
-        let half = put(text, at, even);
-        at = put(text, half, odd);
-        i += 1;
+    for _ in 0..pairs {
+        at = [even, odd].encode(text, at);
     }
-    let places = read_quoted(rest, 0, text, at);
-    let end = places.text;
-    let command = put(tape, 0, codes::FLAGS);
-    let low = put(tape, command, 0x09);
-    let high = put(tape, low, 0x00);
-    let tape_end = put_command(tape, high, codes::COMMENT, 0, end);
-    open(out, &text[0..end], &tape[0..tape_end])
+    let (_, end) = read_quoted(rest, text, at);
+    let flagged = put_flags(tape, 0x09);
+    let tape_end = put_command(tape, flagged, codes::COMMENT, 0, end);
+    open(out, filled(text, end), filled(tape, tape_end))
 }
 
 // ---- pragmas by rule
 
-fn put_word(text: &mut [u8], at: usize, word: &[u8]) -> usize
-    requires { at ≤ length text.old }
-    ensures { result ≤ length text.new }
-{
-    let places = read_quoted(word, 0, text, at);
-    places.text
-}
-
 // One of seven parts, the last of which is empty.
-fn put_part(text: &mut [u8], at: usize, part: usize) -> usize
-    requires { at ≤ length text.old }
-    ensures { result ≤ length text.new }
-{
+fn put_part(text: &mut [u8], at: usize, part: usize) -> usize {
     match part {
-        0 => put_word(text, at, b"this"),
-        1 => put_word(text, at, b"import"),
-        2 => put_word(text, at, b"meta"),
-        3 => put_word(text, at, b"h"),
-        4 => put_word(text, at, b"class"),
-        5 => put_word(text, at, b"1x"),
+        0 => b"this".encode(text, at),
+        1 => b"import".encode(text, at),
+        2 => b"meta".encode(text, at),
+        3 => b"h".encode(text, at),
+        4 => b"class".encode(text, at),
+        5 => b"1x".encode(text, at),
         _ => at,
     }
 }
 
 // A dot and one more part for a number from 1 on, by its remainder; nothing for 0.
-fn put_more(text: &mut [u8], at: usize, parts: usize) -> usize
-    requires { at ≤ length text.old }
-    ensures { result ≤ length text.new }
-{
+fn put_more(text: &mut [u8], at: usize, parts: usize) -> usize {
     if parts == 0 {
         return at;
     }
-    let dotted = put(text, at, b'.');
+    let dotted = b'.'.encode(text, at);
     put_part(text, dotted, (parts - 1) % 7)
 }
 
 // The number of the parts behind that one.
 fn behind(parts: usize) -> usize {
-    if parts == 0 {
-        return 0;
-    }
-    (parts - 1) / 7
+    parts.saturating_sub(1) / 7
 }
 
 // The pragma with this number: below 2,800 each pragma of one to four parts has one, in which the first part counts for the least.
-fn put_pragma(text: &mut [u8], at: usize, parts: usize) -> usize
-    requires { at ≤ length text.old }
-    ensures { result ≤ length text.new }
-{
+fn put_pragma(text: &mut [u8], at: usize, parts: usize) -> usize {
     let second = parts / 7;
     let third = behind(second);
     let a = put_part(text, at, parts % 7);
@@ -494,20 +389,16 @@ fn show_pragma(out: &mut impl Write, text: &[u8], tape: &[u8]) -> Result<()> {
 
 // A classic job with this pragma, behind one more byte of the text.
 fn run_pragma(out: &mut impl Write, parts: usize, text: &mut [u8], tape: &mut [u8]) -> Result<()> {
-    let start = put(text, 0, b'@');
+    let start = b'@'.encode(text, 0);
     let end = put_pragma(text, start, parts);
-    let command = put(tape, 0, codes::FLAGS);
-    let low = put(tape, command, 0x08);
-    let high = put(tape, low, 0x00);
-    let tape_end = put_command(tape, high, codes::PRAGMA, start, end);
-    show_pragma(out, &text[0..end], &tape[0..tape_end])
+    let flagged = put_flags(tape, 0x08);
+    let tape_end = put_command(tape, flagged, codes::PRAGMA, start, end);
+    show_pragma(out, filled(text, end), filled(tape, tape_end))
 }
 
 fn run_pragmas(out: &mut impl Write, text: &mut [u8], tape: &mut [u8]) -> Result<()> {
-    let mut parts = 0;
-    while parts < 2800 {
+    for parts in 0..2800 {
         run_pragma(out, parts, text, tape)?;
-        parts += 1;
     }
     Ok(())
 }
@@ -542,5 +433,5 @@ fn main(rt: HostRuntime) {
     let mut text = [0u8; 65536];
     let mut tape = [0u8; 4096];
     // a test whose output is not taken has failed by what is missing there
-    let _ = run(&mut io::writer(&rt), &input[0..n], &mut text, &mut tape);
+    let _ = run(&mut io::writer(&rt), &input[..n], &mut text, &mut tape);
 }

@@ -5,15 +5,18 @@ use mathlib.Core.Bool.{Bool, true, false, cond, ◌&&◌}
 use mathlib.Core.List.{List, [], ◌∷◌}
 use Prim.Native.Nat.{ℕ, suc, ◌+◌, ◌-◌, ◌*◌, ◌≤◌}
 use native.Mathlib.Omega.{arith}
-use lib.ListN.{length, drop}
+use lib.ListN.{length, drop, get_or}
 use lib.Dec.{eqb, leb, ltb}
 use borrow.Author.Tests.{eqb-true, ltb-false, eq-eqb, le-ltb}
-use Rattle.commands.specs.Root.{operands, scope_with, heritage_command, scope_command, name_command, member_command, attribute_command, property_command, value_command, child_command}
+use Rattle.std.specs.Prelude.{Option, Result, Ok, Err}
+use Rattle.text.specs.declared.spans.Span.{Span}
+use Rattle.commands.specs.declared.error.CommandError.{CommandError}
+use Rattle.commands.specs.declared.error.CommandError.TheVariants.{Cut}
+use Rattle.commands.specs.Operands.{operands}
+use Rattle.commands.specs.Root.{heritage_with, scope_with, heritage_command, scope_command, name_command, member_command, attribute_command, property_command, value_command, child_command}
 use Rattle.commands.specs.Sizes.{root_commands, size_in, command_size, heritage_size, scope_size, name_size, member_size, attribute_size, property_size, value_size, child_size}
-use Rattle.commands.specs.declared.root.HeritageCommand.{HeritageCommand}
 use Rattle.commands.specs.declared.root.ScopeCommand.{ScopeCommand}
 use Rattle.commands.specs.declared.root.NameCommand.{NameCommand}
-use Rattle.commands.specs.declared.root.MemberCommand.{MemberCommand}
 use Rattle.commands.specs.declared.root.AttributeCommand.{AttributeCommand}
 use Rattle.commands.specs.declared.root.PropertyCommand.{PropertyCommand}
 use Rattle.commands.specs.declared.root.ValueCommand.{ValueCommand}
@@ -28,16 +31,15 @@ abbrev pub Fronted : List ℕ → ℕ → ℕ → Type 0
 Fronted t n l = 4 * n + 6 * l + size_bound (drop n t) ≤ size_bound t
 
 -- the length of a text child
-abbrev pub child_text : ChildCommand → ℕ
-child_text (child.Text s) = s.len
-child_text (child.Expression e) = 0
-child_text child.Empty = 0
-child_text (child.Spread e) = 0
-child_text (child.Element p) = 0
-child_text (child.Fragment p) = 0
-child_text child.End = 0
-child_text child.Wrong = 0
-child_text child.Cut = 0
+abbrev pub child_text : Result ChildCommand CommandError → ℕ
+child_text (Ok (child.Text s)) = s.len
+child_text (Ok (child.Expression e)) = 0
+child_text (Ok child.Empty) = 0
+child_text (Ok (child.Spread e)) = 0
+child_text (Ok (child.Element p)) = 0
+child_text (Ok (child.Fragment p)) = 0
+child_text (Ok child.End) = 0
+child_text (Err e) = 0
 
 -- ---- a chain of tests of the byte b
 
@@ -63,10 +65,10 @@ choose : {C : Type 0} (P : C → Type 0) (b : Bool) {x y : C} → P x → P y �
 choose P true p q = p
 choose P false p q = q
 
-with_operands : {C : Type 0} (P : C → Type 0) (n : ℕ) (t : List ℕ) {cut whole : C} → P cut → (n ≤ length t → P whole) → P (operands n t cut whole)
-with_operands P n t {cut} {whole} p q = go (ltb (length t) n) refl
+with_operands : {C : Type 0} (P : Result C CommandError → Type 0) (n : ℕ) (t : List ℕ) {whole : Result C CommandError} → P (Err Cut) → (n ≤ length t → P whole) → P (operands n t whole)
+with_operands P n t {whole} p q = go (ltb (length t) n) refl
   where
-    go : (b : Bool) → ltb (length t) n ≡ b → P (cond b cut whole)
+    go : (b : Bool) → ltb (length t) n ≡ b → P (cond b (Err Cut) whole)
     go true e = p
     go false e = q (ltb-false (length t) n e)
 
@@ -75,31 +77,24 @@ with_operands P n t {cut} {whole} p q = go (ltb (length t) n) refl
 pub heritage_front : (t : List ℕ) → Fronted t (heritage_size (heritage_command t)) 0
 unfolding heritage_command command_size size_in root_commands
 heritage_front [] = nothing []
-heritage_front (b ∷ []) =
-    let P : HeritageCommand → Type 0 = λ c. Fronted (b ∷ []) (heritage_size c) 0 in
-    choose P (eqb b 0x01) (nothing _) (nothing _)
-heritage_front (b ∷ k ∷ t) =
-    let P : HeritageCommand → Type 0 = λ c. Fronted (b ∷ k ∷ t) (heritage_size c) 0 in
-    test P b 0x01 (λ e. choose P (leb k 2) (front b 0x01 1 (k ∷ t) refl e (omega arith)) (nothing _)) (nothing _)
+heritage_front (b ∷ t) =
+    let P : Result ℕ CommandError → Type 0 = λ c. Fronted (b ∷ t) (heritage_size c) 0 in
+    test P b 0x01 (λ e. with_operands P 1 t (nothing _) (λ h. choose P (leb (get_or t 0 0) 2) (front b 0x01 1 t refl e h) (nothing _))) (nothing _)
 
 pub scope_front : (found : Bool) (t : List ℕ) → Fronted t (scope_size (scope_command found t)) 0
 unfolding scope_command command_size size_in root_commands
 scope_front found [] = nothing []
 scope_front found (b ∷ t) =
-    let P : ScopeCommand → Type 0 = λ c. Fronted (b ∷ t) (scope_size c) 0 in
-    test P b 0x02 (λ e. kind t e)
+    let P : Result ScopeCommand CommandError → Type 0 = λ c. Fronted (b ∷ t) (scope_size c) 0 in
+    test P b 0x02 (λ e. with_operands P 1 t (nothing _) (λ h. choose P (leb (get_or t 0 0) 3) (front b 0x02 1 t refl e h) (nothing _)))
     (test_found P found b 0x10 (λ e. with_operands P 8 t (nothing _) (λ h. front b 0x10 8 t refl e h))
     (test_found P found b 0x11 (λ e. with_operands P 8 t (nothing _) (λ h. front b 0x11 8 t refl e h)) (nothing _)))
-  where
-    kind : (t : List ℕ) → b ≡ 0x02 → Fronted (b ∷ t) (scope_size (scope_with t)) 0
-    kind [] e = nothing _
-    kind (k ∷ t) e = choose (λ (c : ScopeCommand). Fronted (b ∷ k ∷ t) (scope_size c) 0) (leb k 3) (front b 0x02 1 (k ∷ t) refl e (omega arith)) (nothing _)
 
 pub name_front : (t : List ℕ) → Fronted t (name_size (name_command t)) 0
 unfolding name_command command_size size_in root_commands
 name_front [] = nothing []
 name_front (b ∷ t) =
-    let P : NameCommand → Type 0 = λ c. Fronted (b ∷ t) (name_size c) 0 in
+    let P : Result NameCommand CommandError → Type 0 = λ c. Fronted (b ∷ t) (name_size c) 0 in
     test P b 0x20 (λ e. with_operands P 4 t (nothing _) (λ h. front b 0x20 4 t refl e h))
     (test P b 0x21 (λ e. with_operands P 4 t (nothing _) (λ h. front b 0x21 4 t refl e h))
     (test P b 0x22 (λ e. front b 0x22 0 t refl e (omega arith))
@@ -109,14 +104,14 @@ pub member_front : (t : List ℕ) → Fronted t (member_size (member_command t))
 unfolding member_command command_size size_in root_commands
 member_front [] = nothing []
 member_front (b ∷ t) =
-    let P : MemberCommand → Type 0 = λ c. Fronted (b ∷ t) (member_size c) 0 in
+    let P : Result (Option Span) CommandError → Type 0 = λ c. Fronted (b ∷ t) (member_size c) 0 in
     test P b 0x25 (λ e. with_operands P 4 t (nothing _) (λ h. front b 0x25 4 t refl e h)) (nothing _)
 
 pub attribute_front : (t : List ℕ) → Fronted t (attribute_size (attribute_command t)) 0
 unfolding attribute_command command_size size_in root_commands
 attribute_front [] = nothing []
 attribute_front (b ∷ t) =
-    let P : AttributeCommand → Type 0 = λ c. Fronted (b ∷ t) (attribute_size c) 0 in
+    let P : Result AttributeCommand CommandError → Type 0 = λ c. Fronted (b ∷ t) (attribute_size c) 0 in
     test P b 0x30 (λ e. with_operands P 4 t (nothing _) (λ h. front b 0x30 4 t refl e h))
     (test P b 0x31 (λ e. with_operands P 8 t (nothing _) (λ h. front b 0x31 8 t refl e h))
     (test P b 0x32 (λ e. with_operands P 2 t (nothing _) (λ h. front b 0x32 2 t refl e h))
@@ -127,7 +122,7 @@ pub property_front : (t : List ℕ) → Fronted t (property_size (property_comma
 unfolding property_command command_size size_in root_commands
 property_front [] = nothing []
 property_front (b ∷ t) =
-    let P : PropertyCommand → Type 0 = λ c. Fronted (b ∷ t) (property_size c) 0 in
+    let P : Result PropertyCommand CommandError → Type 0 = λ c. Fronted (b ∷ t) (property_size c) 0 in
     test P b 0x34 (λ e. with_operands P 2 t (nothing _) (λ h. front b 0x34 2 t refl e h))
     (test P b 0x36 (λ e. with_operands P 6 t (nothing _) (λ h. front b 0x36 6 t refl e h))
     (test P b 0x35 (λ e. front b 0x35 0 t refl e (omega arith)) (nothing _)))
@@ -136,7 +131,7 @@ pub value_front : (t : List ℕ) → Fronted t (value_size (value_command t)) 0
 unfolding value_command command_size size_in root_commands
 value_front [] = nothing []
 value_front (b ∷ t) =
-    let P : ValueCommand → Type 0 = λ c. Fronted (b ∷ t) (value_size c) 0 in
+    let P : Result ValueCommand CommandError → Type 0 = λ c. Fronted (b ∷ t) (value_size c) 0 in
     test P b 0x40 (λ e. front b 0x40 0 t refl e (omega arith))
     (test P b 0x41 (λ e. with_operands P 4 t (nothing _) (λ h. front b 0x41 4 t refl e h))
     (test P b 0x42 (λ e. with_operands P 2 t (nothing _) (λ h. front b 0x42 2 t refl e h))
@@ -153,7 +148,7 @@ pub child_front : (t : List ℕ) → Fronted t (child_size (child_command t)) (c
 unfolding child_command command_size size_in root_commands
 child_front [] = nothing []
 child_front (b ∷ t) =
-    let P : ChildCommand → Type 0 = λ c. Fronted (b ∷ t) (child_size c) (child_text c) in
+    let P : Result ChildCommand CommandError → Type 0 = λ c. Fronted (b ∷ t) (child_size c) (child_text c) in
     test P b 0x50 (λ e. with_operands P 4 t (nothing _) (λ h. omega (arith, bound_front b 0x50 4 t e refl h, text_length_read b t e h)))
     (test P b 0x42 (λ e. with_operands P 2 t (nothing _) (λ h. front b 0x42 2 t refl e h))
     (test P b 0x43 (λ e. front b 0x43 0 t refl e (omega arith))

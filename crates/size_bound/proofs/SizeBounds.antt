@@ -17,15 +17,13 @@ use borrow.Author.Tests.{lt-ltb, le-ltb}
 use Rattle.text.specs.declared.spans.Span.{Span}
 use Rattle.text.specs.Spans.{bounds_of}
 use Rattle.tape.specs.declared.refusal.Fault.TheVariants as fault
+use Rattle.std.specs.Prelude.{Option, None, Some, Result, Ok, Err}
+use Rattle.commands.specs.declared.error.CommandError.{CommandError}
 use Rattle.commands.specs.declared.root.Place.{Place}
-use Rattle.commands.specs.declared.root.HeritageCommand.{HeritageCommand}
-use Rattle.commands.specs.declared.root.HeritageCommand.TheVariants as heritages
 use Rattle.commands.specs.declared.root.ScopeCommand.{ScopeCommand}
 use Rattle.commands.specs.declared.root.ScopeCommand.TheVariants as scopes
 use Rattle.commands.specs.declared.root.NameCommand.{NameCommand}
 use Rattle.commands.specs.declared.root.NameCommand.TheVariants as names
-use Rattle.commands.specs.declared.root.MemberCommand.{MemberCommand}
-use Rattle.commands.specs.declared.root.MemberCommand.TheVariants as members
 use Rattle.commands.specs.declared.root.AttributeCommand.{AttributeCommand}
 use Rattle.commands.specs.declared.root.AttributeCommand.TheVariants as attributes
 use Rattle.commands.specs.declared.root.PropertyCommand.{PropertyCommand}
@@ -99,78 +97,73 @@ opened_costs d p t f h =
 
 -- ---- by the command in front
 
-members_by_command : (text t : List ℕ) (c : MemberCommand) (next : ℕ → Parsed (List Span)) → Fronted t (member_size c) 0
+members_by_command : (text t : List ℕ) (c : Result (Option Span) CommandError) (next : ℕ → Parsed (List Span)) → Fronted t (member_size c) 0
     → ((u : ℕ) → Costs cost_members t (size_bound (drop u t)) (next u)) → Costs cost_members t (size_bound t) (members_by text t c next)
 unfolding members_by
-members_by_command text t members.Other next f h = tells {a = []} {u = 0} (omega arith)
-members_by_command text t members.Cut next f h = faults
-members_by_command text t (members.Member s) next f h = told_named (bounds_of text s) (told_map (s ∷◌) (h 5) (λ a u e. omega arith))
+members_by_command text t (Ok None) next f h = tells {a = []} {u = 0} (omega arith)
+members_by_command text t (Err e) next f h = faults
+members_by_command text t (Ok (Some s)) next f h = told_named (bounds_of text s) (told_map (s ∷◌) (h 5) (λ a u e. omega arith))
 
-name_by_command : (text t : List ℕ) (c : NameCommand) (next : ℕ → Parsed (List Span)) → Fronted t (name_size c) 0
+name_by_command : (text t : List ℕ) (c : Result NameCommand CommandError) (next : ℕ → Parsed (List Span)) → Fronted t (name_size c) 0
     → ((u : ℕ) → Costs cost_members t (size_bound (drop u t)) (next u)) → Costs cost_name t (size_bound t) (name_by text t c next)
 unfolding name_by size_name
-name_by_command text t names.Wrong next f h = faults
-name_by_command text t names.Cut next f h = faults
-name_by_command text t (names.Plain s) next f h = told_named (bounds_of text s) (tells (omega arith))
-name_by_command text t (names.Identifier s) next f h = told_named (bounds_of text s) (told_map (identifier s) (h 5) (λ a u e. omega arith))
-name_by_command text t names.This next f h = told_map this (h 1) (λ a u e. omega arith)
-name_by_command text t (names.Namespaced s r) next f h = told_named (worse (bounds_of text s) (bounds_of text r)) (tells (omega arith))
+name_by_command text t (Err e) next f h = faults
+name_by_command text t (Ok (names.Plain s)) next f h = told_named (bounds_of text s) (tells (omega arith))
+name_by_command text t (Ok (names.Identifier s)) next f h = told_named (bounds_of text s) (told_map (identifier s) (h 5) (λ a u e. omega arith))
+name_by_command text t (Ok names.This) next f h = told_map this (h 1) (λ a u e. omega arith)
+name_by_command text t (Ok (names.Namespaced s r)) next f h = told_named (worse (bounds_of text s) (bounds_of text r)) (tells (omega arith))
 
-properties_by_command : (text t : List ℕ) (c : PropertyCommand) (next : ℕ → Parsed (List Property)) → Fronted t (property_size c) 0
+properties_by_command : (text t : List ℕ) (c : Result PropertyCommand CommandError) (next : ℕ → Parsed (List Property)) → Fronted t (property_size c) 0
     → ((u : ℕ) → Costs cost_properties t (size_bound (drop u t)) (next u)) → Costs cost_properties t (size_bound t) (properties_by text t c next)
 unfolding properties_by size_properties
-properties_by_command text t properties.Wrong next f h = faults
-properties_by_command text t properties.Cut next f h = faults
-properties_by_command text t properties.End next f h = tells {a = []} {u = 1} (omega arith)
-properties_by_command text t (properties.Property e) next f h = told_map (unnamed e ∷◌) (h 3) (λ a u e. omega arith)
-properties_by_command text t (properties.Named e s) next f h = told_spanned (bounds_of text s) (told_map (prop_name e s ∷◌) (h 7) (λ a u e. omega arith))
+properties_by_command text t (Err e) next f h = faults
+properties_by_command text t (Ok properties.End) next f h = tells {a = []} {u = 1} (omega arith)
+properties_by_command text t (Ok (properties.Property e)) next f h = told_map (unnamed e ∷◌) (h 3) (λ a u e. omega arith)
+properties_by_command text t (Ok (properties.Named e s)) next f h = told_spanned (bounds_of text s) (told_map (prop_name e s ∷◌) (h 7) (λ a u e. omega arith))
 
-attributes_by_command : (text t : List ℕ) (c : AttributeCommand) (value : ℕ → Parsed Value) (props : ℕ → Parsed (List Property)) (next : ℕ → Parsed Attributes)
+attributes_by_command : (text t : List ℕ) (c : Result AttributeCommand CommandError) (value : ℕ → Parsed Value) (props : ℕ → Parsed (List Property)) (next : ℕ → Parsed Attributes)
     → Fronted t (attribute_size c) 0
     → ((u : ℕ) → Costs cost_value t (size_bound (drop u t)) (value u))
     → ((u : ℕ) → Costs cost_properties t (size_bound (drop u t)) (props u))
     → ((u : ℕ) → Costs cost_attributes t (size_bound (drop u t)) (next u))
     → Costs cost_attributes t (size_bound t) (attributes_by text t c value props next)
 unfolding attributes_by size_attributes priced_attributes
-attributes_by_command text t attributes.Wrong value props next f v p h = faults
-attributes_by_command text t attributes.Cut value props next f v p h = faults
-attributes_by_command text t attributes.End value props next f v p h = tells {a = no_attributes} {u = 1} (omega arith)
-attributes_by_command text t (attributes.Plain s) value props next f v p h =
+attributes_by_command text t (Err e) value props next f v p h = faults
+attributes_by_command text t (Ok attributes.End) value props next f v p h = tells {a = no_attributes} {u = 1} (omega arith)
+attributes_by_command text t (Ok (attributes.Plain s)) value props next f v p h =
     told_named (bounds_of text s) (told_then _ (v 5) (λ a u e. told_map (attribute s a) (h u) (λ b w d. omega arith)))
-attributes_by_command text t (attributes.Namespaced s r) value props next f v p h =
+attributes_by_command text t (Ok (attributes.Namespaced s r)) value props next f v p h =
     told_named (worse (bounds_of text s) (bounds_of text r)) (told_then _ (v 9) (λ a u e. told_map (namespaced_attribute s r a) (h u) (λ b w d. omega arith)))
-attributes_by_command text t (attributes.Spread e) value props next f v p h = told_map (spread e) (h 3) (λ a u d. omega arith)
-attributes_by_command text t (attributes.Literal e) value props next f v p h = told_then _ (p 3) (λ a u d. told_map (literal e a) (h u) (λ b w c. omega arith))
+attributes_by_command text t (Ok (attributes.Spread e)) value props next f v p h = told_map (spread e) (h 3) (λ a u d. omega arith)
+attributes_by_command text t (Ok (attributes.Literal e)) value props next f v p h = told_then _ (p 3) (λ a u d. told_map (literal e a) (h u) (λ b w c. omega arith))
 
-value_by_command : (text : List ℕ) (d : ℕ) (t : List ℕ) (c : ValueCommand) (full bare : Place → Parsed Node) → Fronted t (value_size c) 0
+value_by_command : (text : List ℕ) (d : ℕ) (t : List ℕ) (c : Result ValueCommand CommandError) (full bare : Place → Parsed Node) → Fronted t (value_size c) 0
     → ((p : Place) → NodeCosts (drop 9 t) (full p)) → ((p : Place) → NodeCosts (drop 9 t) (bare p)) → Costs cost_value t (size_bound t) (value_by text d t c full bare)
 unfolding value_by size_value priced_value
-value_by_command text d t values.Wrong full bare f h k = faults
-value_by_command text d t values.Cut full bare f h k = faults
-value_by_command text d t values.Absent full bare f h k = tells {a = absent} {u = 1} (omega arith)
-value_by_command text d t (values.Text s) full bare f h k = told_lettered text s (tells (omega arith))
-value_by_command text d t (values.Expression e) full bare f h k = tells {a = expression e} {u = 3} (omega arith)
-value_by_command text d t values.Empty full bare f h k = tells {a = empty} {u = 1} (omega arith)
-value_by_command text d t (values.Element p) full bare f h k = told_map node_value (opened_costs d p t f (h p)) (λ n u e. e)
-value_by_command text d t (values.Fragment p) full bare f h k = told_map node_value (opened_costs d p t f (k p)) (λ n u e. e)
+value_by_command text d t (Err e) full bare f h k = faults
+value_by_command text d t (Ok values.Absent) full bare f h k = tells {a = absent} {u = 1} (omega arith)
+value_by_command text d t (Ok (values.Text s)) full bare f h k = told_lettered text s (tells (omega arith))
+value_by_command text d t (Ok (values.Expression e)) full bare f h k = tells {a = expression e} {u = 3} (omega arith)
+value_by_command text d t (Ok values.Empty) full bare f h k = tells {a = empty} {u = 1} (omega arith)
+value_by_command text d t (Ok (values.Element p)) full bare f h k = told_map node_value (opened_costs d p t f (h p)) (λ n u e. e)
+value_by_command text d t (Ok (values.Fragment p)) full bare f h k = told_map node_value (opened_costs d p t f (k p)) (λ n u e. e)
 
-children_by_command : (text : List ℕ) (d : ℕ) (t : List ℕ) (c : ChildCommand) (full bare : Place → Parsed Node) (next : ℕ → Parsed Children)
+children_by_command : (text : List ℕ) (d : ℕ) (t : List ℕ) (c : Result ChildCommand CommandError) (full bare : Place → Parsed Node) (next : ℕ → Parsed Children)
     → Fronted t (child_size c) (child_text c)
     → ((p : Place) → NodeCosts (drop 9 t) (full p))
     → ((p : Place) → NodeCosts (drop 9 t) (bare p))
     → ((u : ℕ) → Costs cost_children t (size_bound (drop u t)) (next u))
     → Costs cost_children t (size_bound t) (children_by text d t c full bare next)
 unfolding children_by size_children priced_children
-children_by_command text d t children.Wrong full bare next f h k n = faults
-children_by_command text d t children.Cut full bare next f h k n = faults
-children_by_command text d t children.End full bare next f h k n = tells {a = no_children} {u = 1} (omega arith)
-children_by_command text d t (children.Text s) full bare next f h k n = told_lettered text s (told_map (text_child s) (n 5) (λ a u e. omega arith))
-children_by_command text d t (children.Expression e) full bare next f h k n = told_map (expression_child e) (n 3) (λ a u e. omega arith)
-children_by_command text d t children.Empty full bare next f h k n = told_map empty_child (n 1) (λ a u e. omega arith)
-children_by_command text d t (children.Spread e) full bare next f h k n = told_map (spread_child e) (n 3) (λ a u e. omega arith)
-children_by_command text d t (children.Element p) full bare next f h k n =
+children_by_command text d t (Err e) full bare next f h k n = faults
+children_by_command text d t (Ok children.End) full bare next f h k n = tells {a = no_children} {u = 1} (omega arith)
+children_by_command text d t (Ok (children.Text s)) full bare next f h k n = told_lettered text s (told_map (text_child s) (n 5) (λ a u e. omega arith))
+children_by_command text d t (Ok (children.Expression e)) full bare next f h k n = told_map (expression_child e) (n 3) (λ a u e. omega arith)
+children_by_command text d t (Ok children.Empty) full bare next f h k n = told_map empty_child (n 1) (λ a u e. omega arith)
+children_by_command text d t (Ok (children.Spread e)) full bare next f h k n = told_map (spread_child e) (n 3) (λ a u e. omega arith)
+children_by_command text d t (Ok (children.Element p)) full bare next f h k n =
     told_then _ (opened_costs d p t f (h p)) (λ a u e. told_map (node_child a) (n u) (λ b w c. omega arith))
-children_by_command text d t (children.Fragment p) full bare next f h k n =
+children_by_command text d t (Ok (children.Fragment p)) full bare next f h k n =
     told_then _ (opened_costs d p t f (k p)) (λ a u e. told_map (node_child a) (n u) (λ b w c. omega arith))
 
 -- ---- each reader
@@ -235,18 +228,16 @@ mutual
 abbrev ScopedWithin : ℕ → Parsed Scoped → Type 0
 ScopedWithin r p = Told (λ s u. cost_node s.node ≤ r) p
 
-scopes_by_command : (text t : List ℕ) (c : ScopeCommand) (full bare : Place → Parsed Node) (next : ℕ → Parsed Scoped) → Fronted t (scope_size c) 0
+scopes_by_command : (text t : List ℕ) (c : Result ScopeCommand CommandError) (full bare : Place → Parsed Node) (next : ℕ → Parsed Scoped) → Fronted t (scope_size c) 0
     → ((p : Place) → NodeCosts (drop 9 t) (full p))
     → ((p : Place) → NodeCosts (drop 9 t) (bare p))
     → ((k : ℕ) → ScopedWithin (size_bound (drop 2 t)) (next k))
     → ScopedWithin (size_bound t) (scopes_by text t c full bare next)
 unfolding scopes_by
-scopes_by_command text t scopes.Wrong full bare next f h k n = faults
-scopes_by_command text t scopes.Cut full bare next f h k n = faults
-scopes_by_command text t scopes.Bad full bare next f h k n = faults
-scopes_by_command text t (scopes.Scope x) full bare next f h k n = told_map (in_scope x) (n x) (λ s u e. omega arith)
-scopes_by_command text t (scopes.Element p) full bare next f h k n = told_map unscoped (opened_costs 0 p t f (h p)) (λ x u e. omega arith)
-scopes_by_command text t (scopes.Fragment p) full bare next f h k n = told_map unscoped (opened_costs 0 p t f (k p)) (λ x u e. omega arith)
+scopes_by_command text t (Err e) full bare next f h k n = faults
+scopes_by_command text t (Ok (scopes.Scope x)) full bare next f h k n = told_map (in_scope x) (n x) (λ s u e. omega arith)
+scopes_by_command text t (Ok (scopes.Element p)) full bare next f h k n = told_map unscoped (opened_costs 0 p t f (h p)) (λ x u e. omega arith)
+scopes_by_command text t (Ok (scopes.Fragment p)) full bare next f h k n = told_map unscoped (opened_costs 0 p t f (k p)) (λ x u e. omega arith)
 
 scopes_within : (f : ℕ) (text : List ℕ) (known : Bool) (t : List ℕ) → ScopedWithin (size_bound t) (scopes_at f text known t)
 unfolding scopes_at
@@ -261,13 +252,11 @@ scopes_within (suc f) text known t =
 abbrev RootWithin : ℕ → Parsed Root → Type 0
 RootWithin r p = Told (λ o u. cost_node o.node ≤ r) p
 
-root_by_command : (t : List ℕ) (c : HeritageCommand) (rest : Parsed Scoped) → Fronted t (heritage_size c) 0 → ScopedWithin (size_bound (drop 2 t)) rest
+root_by_command : (t : List ℕ) (c : Result ℕ CommandError) (rest : Parsed Scoped) → Fronted t (heritage_size c) 0 → ScopedWithin (size_bound (drop 2 t)) rest
     → RootWithin (size_bound t) (root_by t c rest)
 unfolding root_by
-root_by_command t heritages.Wrong rest f h = faults
-root_by_command t heritages.Cut rest f h = faults
-root_by_command t heritages.Bad rest f h = faults
-root_by_command t (heritages.Heritage x) rest f h = told_map _ h (λ s u e. omega arith)
+root_by_command t (Err e) rest f h = faults
+root_by_command t (Ok x) rest f h = told_map _ h (λ s u e. omega arith)
 
 root_within : (text t : List ℕ) → RootWithin (size_bound t) (read_root text t)
 unfolding read_root whole

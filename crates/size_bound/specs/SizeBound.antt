@@ -1,7 +1,6 @@
 -- A bound on the size of a root tape's calls, by one pass from command to command.
 use Rattle.std.specs.Prelude.{ℕ, zero, suc, ◌+◌, ◌-◌, ◌*◌, ◌≤◌, ◌≡◌, cond, List, [], ◌∷◌, length, eqb, ltb}
 use Rattle.tape.specs.Numbers.{u16_at}
-use Rattle.commands.specs.Root.{operands}
 use Rattle.commands.specs.Sizes.{command_size}
 use Rattle.definitions.specs.declared.options.Settings.{Settings}
 use Rattle.definitions.specs.declared.records.Import.{Import}
@@ -13,7 +12,7 @@ use Rattle.definitions.specs.Entries.{lowered_after}
 -- the length of the text that the command in front tells; 0 where it is none, or cut off
 unfoldable pub text_length : List ℕ → ℕ
 text_length [] = 0
-text_length (b ∷ t) = cond (eqb b 0x50) (operands 4 t 0 (u16_at t 2)) 0
+text_length (b ∷ t) = cond (eqb b 0x50) (cond (ltb (length t) 4) 0 (u16_at t 2)) 0
 
 -- what the lengths of the texts come to that are met behind n bytes, which are passed over; a byte that begins no command is passed by itself
 unfoldable pub texts_behind : ℕ → List ℕ → ℕ

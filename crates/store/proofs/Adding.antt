@@ -1,19 +1,19 @@
 -- Adding an import to a store (`added` and `Holds` of specs, Adding).
 --     added_over, added_found, added_made, added_full     what it gives, by the tests that the code makes
---     full_stays                                          a full store stays as it is
 --     holds_from                                          a store of js and any places behind them
 --     held_things, held_adds                              of a store that holds js: what it binds, and all that adding an import gives
 --     held_moved                                          the state after an accepted root is that of a store which holds what is bound then
 -- Assumes nothing.
+use Rattle.std.specs.Prelude.{Some}
 use mathlib.Core.Path.{◌≡◌, refl, sym, ap, ◌∙◌}
-use mathlib.Core.Bool.{Bool, true, false, cond, true≢false, false≢true}
+use mathlib.Core.Bool.{Bool, true, false, cond, true≢false}
 use mathlib.Core.List.{List, [], ◌∷◌, ◌++◌, append_assoc}
 use Prim.Native.Nat.{ℕ, ◌+◌, ◌≤◌, ◌<◌}
 use native.Mathlib.Nat.{zero-add}
 use native.Mathlib.Numerals.{add-one}
 use native.Mathlib.Omega.{arith}
-use lib.ListN.{length, take, drop, length-append, length-map}
-use lib.Seq.{take_at, drop_at, drop-cons, set_at, length-take-le}
+use lib.ListN.{length, drop, length-append}
+use lib.Seq.{take_at, drop_at, drop-cons, set_at}
 use lib.Dec.{ltb}
 use borrow.Author.Tests.{lt-ltb, le-ltb, ltb-true, ltb-false}
 use Rattle.definitions.specs.declared.records.Import.{Import}
@@ -32,32 +32,18 @@ pub added_over : (s : Store) (i : Import) → 8 < s.count → added s i ≡ full
 unfolding added
 added_over s i h = rw (lt-ltb 8 s.count h)
 
-module _ (s : Store) (i : Import) (few : s.count ≤ 8) (eight : length s.records ≡ 8) where
-  length_things : length (things s) ≡ s.count
-  length_things = length-map (take s.count s.records) (λ r. r.import) ∙ length-take-le s.count s.records (omega arith)
-
-  pub added_found : number_in (things s) i < s.count → added s i ≡ found_in s i
+module _ (s : Store) (i : Import) (few : s.count ≤ 8) where
+  pub added_found : is_bound (things s) i ≡ true → added s i ≡ found_in s i
   unfolding added
-  added_found h = rw (le-ltb 8 s.count few, length_things, lt-ltb (number_in (things s) i) s.count h)
+  added_found e = rw (le-ltb 8 s.count few, e)
 
-  pub added_made : s.count ≤ number_in (things s) i → s.count < 8 → added s i ≡ made_in s i
+  pub added_made : is_bound (things s) i ≡ false → s.count < 8 → added s i ≡ made_in s i
   unfolding added
-  added_made h k = rw (le-ltb 8 s.count few, length_things, le-ltb (number_in (things s) i) s.count h, lt-ltb s.count 8 k)
+  added_made e k = rw (le-ltb 8 s.count few, e, lt-ltb s.count 8 k)
 
-  pub added_full : s.count ≤ number_in (things s) i → 8 ≤ s.count → added s i ≡ full_of s
+  pub added_full : is_bound (things s) i ≡ false → 8 ≤ s.count → added s i ≡ full_of s
   unfolding added
-  added_full h k = rw (le-ltb 8 s.count few, length_things, le-ltb (number_in (things s) i) s.count h, le-ltb s.count 8 k)
-
-pub full_stays : (s : Store) (i : Import) → (added s i).full ≡ true → (added s i).store ≡ s
-unfolding added
-full_stays s i = go (ltb 8 s.count) (is_bound (things s) i) (ltb s.count 8)
-  where
-    go : (over there room : Bool) → (cond over (full_of s) (cond there (found_in s i) (cond room (made_in s i) (full_of s)))).full ≡ true
-        → (cond over (full_of s) (cond there (found_in s i) (cond room (made_in s i) (full_of s)))).store ≡ s
-    go true there room e = refl
-    go false true room e = refl
-    go false false true e = absurd (false≢true e)
-    go false false false e = refl
+  added_full e k = rw (le-ltb 8 s.count few, e, le-ltb s.count 8 k)
 
 -- ---- a store that holds js
 
@@ -89,7 +75,7 @@ held_more {a} {js} {s} i h k =
 
 -- what adding gives, over js
 held_added : {a : List Record} {js : List Import} {s : Store} (i : Import) → Holds a js s
-    → added s i ≡ cond (is_bound js i) (record { store = s; number = number_in js i; full = false }) (cond (ltb (length js) 8) (made_in s i) (full_of s))
+    → added s i ≡ cond (is_bound js i) (record { number = Some (number_in js i); store = s }) (cond (ltb (length js) 8) (made_in s i) (full_of s))
 unfolding added
 held_added {s = s} i h = rw (le-ltb 8 s.count (omega (arith, h.few, h.counted)), held_things h, h.counted)
 
@@ -100,7 +86,7 @@ held_adds {a} {js} {s} i h = rw (held_added i h) (go (is_bound js i) refl (ltb (
     more = length-append js (i ∷ [])
 
     go : (there : Bool) → is_bound js i ≡ there → (room : Bool) → ltb (length js) 8 ≡ room
-        → Adds a js i (cond there (record { store = s; number = number_in js i; full = false }) (cond room (made_in s i) (full_of s)))
+        → Adds a js i (cond there (record { number = Some (number_in js i); store = s }) (cond room (made_in s i) (full_of s)))
     go true e room f = record {
       fullness = rw (bound_there js i e) (sym (le-ltb 8 (length js) h.few));
       number = λ _. refl;
@@ -108,7 +94,7 @@ held_adds {a} {js} {s} i h = rw (held_added i h) (go (is_bound js i) refl (ltb (
     }
     go false e true f = record {
       fullness = rw (bound_new js i e) (sym (le-ltb 8 (length (js ++ i ∷ [])) (omega (arith, more, ltb-true (length js) 8 f))));
-      number = λ _. omega (arith, h.counted, number_le js i, ltb-false (number_in js i) (length js) e);
+      number = λ _. ap Some (omega (arith, h.counted, number_le js i, ltb-false (number_in js i) (length js) e));
       holds = λ _. rw (bound_new js i e) (held_more i h (ltb-true (length js) 8 f));
     }
     go false e false f = record {

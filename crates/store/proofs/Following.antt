@@ -1,45 +1,43 @@
 -- Records one after the other (`following` of specs, Following).
---     follows_not, follows_on, follows_all     a walk through the first n records of an array, at element i
+--     follows_not, follows_on, follows_all     a walk through records, at element i
 --     following_sound                          it is what soundness says of the records
 -- Assumes nothing.
+use Rattle.std.specs.Prelude.{Option, is_some}
 use mathlib.Core.Path.{◌≡◌, refl, ◌∙◌}
 use mathlib.Core.Bool.{Bool, true, false, not, ◌&&◌}
 use mathlib.Core.List.{List, [], ◌∷◌, ◌++◌, map-append}
 use Prim.Native.Nat.{ℕ, suc, ◌+◌, ◌≤◌, ◌<◌}
 use native.Mathlib.Numerals.{add-one}
-use native.Mathlib.Omega.{arith}
-use lib.ListN.{length, take, get_or, length-map}
-use lib.Seq.{slice, slice-cons, slice_empty, take-suc, length-take-le}
-use lib.Dec.{eqb, ltb}
+use lib.ListN.{length, take, drop, get_or, drop_of_length-le}
+use lib.Seq.{drop-cons, take-suc}
+use lib.Dec.{eqb}
 use Rattle.definitions.specs.declared.options.Settings.{Settings}
 use Rattle.definitions.specs.declared.records.Import.{Import}
 use Rattle.definitions.specs.declared.records.Record.{Record}
-use Rattle.definitions.specs.Store.{number_in, is_bound, can_bind}
+use Rattle.definitions.specs.Store.{is_bound, can_bind}
 use Rattle.definitions.specs.States.{imports, numbered_from, unrepeated, all_bindable}
 use Rattle.store.specs.Following.{may_follow, following}
-use Rattle.records.proofs.Numbers.{nowhere}
+use Rattle.records.specs.Numbers.{place_of}
+use Rattle.records.proofs.Numbers.{nowhere, place_is_some}
 
--- the code's tests: b that the number is the place, number the place of the thing among those before, can that the settings bind it
-module _ (s : Settings) (a : List Record) (i n : ℕ) (h : i < n) (k : n ≤ length a) (number : ℕ) (can : Bool)
-    (f : number ≡ number_in (imports (take i a)) (get_or a i nowhere).import) (g : can ≡ can_bind s (get_or a i nowhere).import) where
-  may : may_follow s i (imports (take i a)) (get_or a i nowhere) ≡ (eqb (get_or a i nowhere).binding i && not (ltb number i) && can)
-  may =
-      let l : length (imports (take i a)) ≡ i = length-map (take i a) (λ r. r.import) ∙ length-take-le i a (omega arith) in
-      rw (l, f, g)
+-- the code's tests: that the number is the place, again that one of those before has the thing, can that the settings bind it
+module _ (s : Settings) (a : List Record) (i : ℕ) (h : i < length a) (place : Option ℕ) (again can : Bool)
+    (b : again ≡ is_some place) (f : place ≡ place_of (imports (take i a)) (get_or a i nowhere).import) (g : can ≡ can_bind s (get_or a i nowhere).import) where
+  may : may_follow s i (imports (take i a)) (get_or a i nowhere) ≡ (eqb (get_or a i nowhere).binding i && not again && can)
+  may = rw (b, f, place_is_some (imports (take i a)) (get_or a i nowhere).import, g)
 
-  pub follows_not : (eqb (get_or a i nowhere).binding i && not (ltb number i) && can) ≡ false → following s i (imports (take i a)) (slice i n a) ≡ false
+  pub follows_not : (eqb (get_or a i nowhere).binding i && not again && can) ≡ false → following s i (imports (take i a)) (drop i a) ≡ false
   unfolding following
-  follows_not e = rw (slice-cons i n a nowhere h k, may ∙ e)
+  follows_not e = rw (drop-cons a i nowhere h, may ∙ e)
 
-  pub follows_on : (eqb (get_or a i nowhere).binding i && not (ltb number i) && can) ≡ true
-      → following s i (imports (take i a)) (slice i n a) ≡ following s (i + 1) (imports (take (i + 1) a)) (slice (i + 1) n a)
+  pub follows_on : (eqb (get_or a i nowhere).binding i && not again && can) ≡ true
+      → following s i (imports (take i a)) (drop i a) ≡ following s (i + 1) (imports (take (i + 1) a)) (drop (i + 1) a)
   unfolding following
-  follows_on e =
-      rw (slice-cons i n a nowhere h k, may ∙ e, add-one, take-suc a i nowhere (omega arith), map-append)
+  follows_on e = rw (drop-cons a i nowhere h, may ∙ e, add-one, take-suc a i nowhere h, map-append)
 
-pub follows_all : (s : Settings) (seen : List Import) (n : ℕ) (a : List Record) → following s n seen (slice n n a) ≡ true
+pub follows_all : (s : Settings) (k : ℕ) (seen : List Import) (a : List Record) (i : ℕ) → length a ≤ i → following s k seen (drop i a) ≡ true
 unfolding following
-follows_all s seen n a = rw (slice_empty n a)
+follows_all s k seen a i h = rw (drop_of_length-le a h)
 
 -- ---- what soundness says of the records
 

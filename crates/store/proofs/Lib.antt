@@ -1,3 +1,4 @@
+mod Forms
 pub mod Growing
 pub mod Adding
 pub mod Following

@@ -1,5 +1,5 @@
 -- A store of records, and what adding an import to it gives.
-use Rattle.std.specs.Prelude.{◌≡◌, ◌+◌, ◌≤◌, true, false, cond, List, ◌++◌, length, take, drop, set, ltb}
+use Rattle.std.specs.Prelude.{◌≡◌, ℕ, ◌+◌, ◌≤◌, false, cond, List, ◌++◌, length, take, drop, set, ltb, None, Option, Some, is_none}
 use Rattle.definitions.specs.declared.records.Import.{Import}
 use Rattle.definitions.specs.declared.records.Record.{Record}
 use Rattle.definitions.specs.declared.state.State.{State}
@@ -7,7 +7,6 @@ use Rattle.definitions.specs.Store.{number_in, is_bound, bound}
 use Rattle.definitions.specs.States.{imports}
 use Rattle.definitions.specs.Entries.{records_from}
 use Rattle.store.specs.declared.module_imports.Store.{Store}
-use Rattle.store.specs.declared.module_imports.Added.{Added}
 
 abbrev pub store_of : State → Store
 store_of s = record { records = s.records; count = s.count }
@@ -16,21 +15,25 @@ store_of s = record { records = s.records; count = s.count }
 abbrev pub things : Store → List Import
 things s = imports (take s.count s.records)
 
+-- what adding an import gives: its number, or none where there is none left, and the store after
+pub record Added : Type 0 where
+  pub number : Option ℕ
+  pub store : Store
+
 -- there is no number for another thing: the store stays
 abbrev pub full_of : Store → Added
-full_of s = record { store = s; number = 0; full = true }
+full_of s = record { number = None; store = s }
 
 -- the thing has a number already: the store stays
 abbrev pub found_in : Store → Import → Added
-found_in s i = record { store = s; number = number_in (things s) i; full = false }
+found_in s i = record { number = Some (number_in (things s) i); store = s }
 
 -- a record behind the others. "Bindings count from 0 in order of making"
 abbrev pub made_in : Store → Import → Added
 made_in s i =
     record {
+      number = Some s.count;
       store = record { records = set s.records s.count (record { import = i; binding = s.count }); count = s.count + 1 };
-      number = s.count;
-      full = false;
     }
 
 -- `add_import` (module_imports.rs). A store that says more than 8 is none that was made here, and counts as full
@@ -47,8 +50,8 @@ pub record Holds (a : List Record) (js : List Import) (s : Store) : Type 0 where
   pub counted : s.count ≡ length js
   pub whole : s.records ≡ records_from 0 js ++ drop (length js) a
 
--- what an import added to a store of js has given: full where a ninth thing would be bound, else its number among js and a store of js with it
+-- what an import added to a store of js has given: none where a ninth thing would be bound, else its number among js, and a store of js with it
 pub record Adds (a : List Record) (js : List Import) (i : Import) (r : Added) : Type 0 where
-  pub fullness : r.full ≡ ltb 8 (length (bound js i))
-  pub number : r.full ≡ false → r.number ≡ number_in js i
-  pub holds : r.full ≡ false → Holds a (bound js i) r.store
+  pub fullness : is_none r.number ≡ ltb 8 (length (bound js i))
+  pub number : is_none r.number ≡ false → r.number ≡ Some (number_in js i)
+  pub holds : is_none r.number ≡ false → Holds a (bound js i) r.store

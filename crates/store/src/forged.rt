@@ -1,21 +1,19 @@
 // Which states are forged: "over 8 records, a settings span or pragma form that this text does not bear out, records not numbered without gaps, a
 // repeated pair, or a record its mode cannot make", and for a root "a call or notice fill above its target".
-ghost use Rattle.std.specs.Prelude.{◌≡◌, not, ◌||◌, [], ◌≤◌, take};
+ghost use Rattle.std.specs.Prelude.{◌≡◌, not, ◌||◌, []};
 ghost use Rattle.definitions.specs.Store.{source_of, can_name, can_import, can_require, can_bind};
 ghost use Rattle.definitions.specs.Opening.{form_under, over_ascii_in, if_classic};
-ghost use Rattle.definitions.specs.States.{in_order, borne_out, spans_borne_out, same_form, form_borne_out, forms_borne_out, sound, overfilled};
+ghost use Rattle.definitions.specs.States.{in_order, borne_out, spans_borne_out, form_borne_out, forms_borne_out, sound, overfilled};
 ghost use Rattle.store.specs.Following.{following};
 
-use definitions::options::{Form, Mode, Optional, Options, Settings};
+use definitions::options::{Form, Mode, Options, Settings};
 use definitions::records::{
     CREATE_ELEMENT, FRAGMENT, IMPORT_SOURCE, Import, JSX, JSX_DEV, JSXS, RUNTIME_SOURCE, Record,
 };
 use definitions::state::State;
-use option_values::pragma_root_number;
 use pragma::{form_under, over_ascii_under};
 use records::finding::number_in;
-use text::bytes::Found;
-use text::spans::{Bounds, span_bounds};
+use text::spans::{Bounds, Span, span_bounds};
 
 // ---- the settings
 
@@ -23,53 +21,35 @@ use text::spans::{Bounds, span_bounds};
 fn in_order(bounds: Bounds) -> bool
     ensures { result ≡ in_order bounds }
 {
-    match bounds {
-        Bounds::Outside => false,
-        Bounds::Cuts => false,
-        Bounds::Empty => true,
-        Bounds::Good => true,
-    }
+    matches!(bounds, Bounds::Empty | Bounds::Good)
 }
 
-fn borne_out(text: &[u8], setting: Optional) -> bool
+fn borne_out(text: &[u8], setting: Option<Span>) -> bool
     ensures { result ≡ borne_out text.now setting }
 {
     match setting {
-        Optional::Absent => true,
-        Optional::Present(span) => in_order(span_bounds(text, span)),
+        None => true,
+        Some(span) => in_order(span_bounds(text, span)),
     }
 }
 
 fn spans_borne_out(text: &[u8], options: Options) -> bool
     ensures { result ≡ spans_borne_out text.now options }
 {
-    let pragma = options.pragma;
-    let pragma_frag = options.pragma_frag;
-    let import_source = options.import_source;
-    let ts_pragma = options.ts_pragma;
-    let ts_pragma_frag = options.ts_pragma_frag;
-    borne_out(text, pragma)
-        & borne_out(text, pragma_frag)
-        & borne_out(text, import_source)
-        & borne_out(text, ts_pragma)
-        & borne_out(text, ts_pragma_frag)
-}
-
-fn same_form(f: Form, g: Form) -> bool
-    ensures { result ≡ same_form f g }
-{
-    let a = f.root;
-    let b = g.root;
-    (pragma_root_number(a) == pragma_root_number(b)) & (f.tail == g.tail)
+    borne_out(text, options.pragma)
+        & borne_out(text, options.pragma_frag)
+        & borne_out(text, options.import_source)
+        & borne_out(text, options.ts_pragma)
+        & borne_out(text, options.ts_pragma_frag)
 }
 
 // Whether the text bears out the form of a pragma: it does for none that has a byte over 7F, since no opening takes it.
-fn form_borne_out(text: &[u8], mode: Mode, pragma: Optional, form: Form) -> bool
+fn form_borne_out(text: &[u8], mode: Mode, pragma: Option<Span>, form: Form) -> bool
     ensures { result ≡ form_borne_out (if_classic mode (over_ascii_in text.now pragma)) form (form_under mode text.now pragma) }
 {
     match over_ascii_under(mode, text, pragma) {
-        Found::At(_) => false,
-        Found::Nothing => same_form(form, form_under(mode, text, pragma)),
+        Some(_) => false,
+        None => form == form_under(mode, text, pragma),
     }
 }
 
@@ -78,11 +58,8 @@ fn forms_borne_out(text: &[u8], settings: Settings) -> bool
 {
     let mode = settings.mode;
     let options = settings.options;
-    let pragma = options.pragma;
-    let pragma_frag = options.pragma_frag;
-    let form = settings.pragma;
-    let form_frag = settings.pragma_frag;
-    form_borne_out(text, mode, pragma, form) & form_borne_out(text, mode, pragma_frag, form_frag)
+    form_borne_out(text, mode, options.pragma, settings.pragma)
+        & form_borne_out(text, mode, options.pragma_frag, settings.pragma_frag)
 }
 
 // ---- the records
@@ -140,21 +117,16 @@ fn can_bind(settings: Settings, import: Import) -> bool
     }
 }
 
-// Whether each of the first n records has its place for its number, binds what none before it binds, and is one that these settings can make.
-fn follow(settings: Settings, records: [Record; 8], n: usize) -> bool
-    requires { n ≤ 8 }
-    ensures { result ≡ following settings 0 [] (take n records) }
+// Whether each record has its place for its number, binds what none before it binds, and is one that these settings can make.
+fn follow(settings: Settings, records: &[Record]) -> bool
+    ensures { result ≡ following settings 0 [] records.now }
 {
-    let mut i = 0;
-    while i < n {
-        let r = records[i];
-        let import = r.import;
-        let numbered = r.binding as usize == i;
-        let repeated = number_in(records, i, import) < i;
-        if !(numbered & !repeated & can_bind(settings, import)) {
+    for (i, record) in records.iter().enumerate() {
+        let numbered = record.binding as usize == i;
+        let repeated = number_in(&records[..i], record.import).is_some();
+        if !(numbered & !repeated & can_bind(settings, record.import)) {
             return false;
         }
-        i += 1;
     }
     true
 }
@@ -170,11 +142,9 @@ pub fn is_sound(text: &[u8], state: State) -> bool
         return false;
     }
     let settings = state.settings;
-    let options = settings.options;
-    let records = state.records;
-    spans_borne_out(text, options)
+    spans_borne_out(text, settings.options)
         & forms_borne_out(text, settings)
-        & follow(settings, records, count)
+        & follow(settings, &state.records[..count])
 }
 
 // Whether a root turns the state away, over targets of these lengths.

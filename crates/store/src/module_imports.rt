@@ -5,78 +5,47 @@ ghost use Rattle.store.specs.Adding.{added};
 
 use crate::judging::judge_state;
 use definitions::records::{Import, Record};
-use definitions::state::{Answer, State, Written};
+use definitions::state::State;
 use records::finding::number_in;
 use records::record_tape::write_tape;
+use tape::refusal::Refusal;
 
 // The first `count` of the records: what a job binds, in order of making.
 #[derive(Clone, Copy)]
 pub struct Store {
+    // kept: no heap, so the records stand in a buffer with their number beside it
     pub records: [Record; 8],
     pub count: u8,
 }
 
-// The store with an import, and the import's number; or the store as it was, and that it has no number left.
-#[derive(Clone, Copy)]
-pub struct Added {
-    pub store: Store,
-    pub number: u8,
-    pub full: bool,
-}
-
-// Finds an import's record, or makes one behind the others.
-pub fn add_import(store: Store, import: Import) -> Added
-    ensures { result ≡ added store import }
-{
-    let count = store.count as usize;
-    if 8 < count {
-        return Added {
-            store,
-            number: 0,
-            full: true,
-        };
-    }
-    let records = store.records;
-    let number = number_in(records, count, import);
-    if number < count {
-        return Added {
-            store,
-            number: number as u8,
-            full: false,
-        };
-    }
-    if count < 8 {
-        let binding = count as u8;
-        let mut longer = records;
-        longer[count] = Record { import, binding };
-        return Added {
-            store: Store {
-                records: longer,
-                count: binding + 1,
-            },
-            number: binding,
-            full: false,
-        };
-    }
-    Added {
-        store,
-        number: 0,
-        full: true,
+impl Store {
+    // Finds an import's record, or makes one behind the others. Gives the import's number, or none where there is none left: then the store stays as it was.
+    pub fn add_import(&mut self, import: Import) -> Option<u8>
+        ensures number { result ≡ (added self.old import).number }
+        ensures store_after { self.new ≡ (added self.old import).store }
+    {
+        let count = self.count as usize;
+        if 8 < count {
+            return None;
+        }
+        if let Some(number) = number_in(&self.records[..count], import) {
+            return Some(number as u8);
+        }
+        if count == 8 {
+            return None;
+        }
+        let binding = self.count;
+        self.records[count] = Record { import, binding };
+        self.count = binding + 1;
+        Some(binding)
     }
 }
 
 // The record tape into the target: refusals 1, 2, 12 and 10, in this order, leave the target as it is.
-pub fn write_records(text: &[u8], state: State, target: &mut [u8]) -> Written
+pub fn write_records(text: &[u8], state: State, target: &mut [u8]) -> Result<usize, Refusal>
     ensures value { result ≡ records_answer (judge_records text.now state (length target.old)) }
     ensures target_after { target.new ≡ records_target target.old (judge_records text.now state (length target.old)) }
 {
-    match judge_state(text, state) {
-        Answer::Refused(refusal) => Written::Refused(refusal),
-        Answer::Accepted => {
-            let settings = state.settings;
-            let mode = settings.mode;
-            let records = state.records;
-            write_tape(mode, records, state.count, target)
-        }
-    }
+    judge_state(text, state)?;
+    write_tape(state.settings.mode, &state.records[..state.count], target)
 }

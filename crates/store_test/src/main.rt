@@ -5,12 +5,12 @@
 mod show;
 mod states;
 
-use definitions::options::{Form, Mode, Optional, PragmaRoot, Settings};
+use definitions::options::{Form, Mode, Options, PragmaRoot, Settings};
 use definitions::records::Import;
 use definitions::state::State;
 use files::CANNOT_WRITE;
 use show::{show, show_added, show_forged, show_over};
-use states::{bind, filled, forms, opened, put, settings, spans};
+use states::{bind, filled, opened, put, settings};
 use std::io;
 use std::io::{Result, Write};
 use text::spans::Span;
@@ -30,44 +30,44 @@ fn fragment() -> Import {
 // ---- tapes
 
 fn modules(out: &mut impl Write, module: State) -> Result<()> {
-    show(out, b"nothing bound", module, 1)?;
-    show(out, b"jsx", bind(module, jsx()), 6)?;
-    show(out, b"jsx twice", bind(bind(module, jsx()), jsx()), 6)
+    show(out, "nothing bound", module, 1)?;
+    show(out, "jsx", bind(module, jsx()), 6)?;
+    show(out, "jsx twice", bind(bind(module, jsx()), jsx()), 6)
 }
 
 fn groups(out: &mut impl Write, module: State) -> Result<()> {
     show(
         out,
-        b"createElement first",
+        "createElement first",
         bind(bind(module, create_element()), jsx()),
         11,
     )?;
     show(
         out,
-        b"createElement last",
+        "createElement last",
         bind(bind(module, jsx()), create_element()),
         11,
     )?;
     show(
         out,
-        b"fragment, then jsx",
+        "fragment, then jsx",
         bind(bind(module, fragment()), jsx()),
         9,
     )?;
     let three = bind(bind(bind(module, jsx()), create_element()), fragment());
-    show(out, b"all four names", bind(three, Import::Named(1, 3)), 17)
+    show(out, "all four names", bind(three, Import::Named(1, 3)), 17)
 }
 
 fn fronts(out: &mut impl Write, script: State) -> Result<()> {
     show(
         out,
-        b"require 1, then 0",
+        "require 1, then 0",
         bind(bind(script, Import::Default(1)), Import::Default(0)),
         9,
     )?;
     show(
         out,
-        b"require 0, then 1",
+        "require 0, then 1",
         bind(bind(script, Import::Default(0)), Import::Default(1)),
         9,
     )
@@ -77,19 +77,19 @@ fn fronts(out: &mut impl Write, script: State) -> Result<()> {
 fn file_names(out: &mut impl Write, module: State, script: State, classic: State) -> Result<()> {
     show(
         out,
-        b"file name in a module",
+        "file name in a module",
         bind(bind(module, Import::FileName), Import::Named(1, 4)),
         9,
     )?;
     show(
         out,
-        b"file name in a script",
+        "file name in a script",
         bind(bind(script, Import::FileName), Import::Default(1)),
         8,
     )?;
     show(
         out,
-        b"file name in classic",
+        "file name in classic",
         bind(classic, Import::FileName),
         4,
     )
@@ -97,46 +97,46 @@ fn file_names(out: &mut impl Write, module: State, script: State, classic: State
 
 fn rooms(out: &mut impl Write, script: State) -> Result<()> {
     let two = bind(bind(script, Import::Default(1)), Import::Default(0));
-    show(out, b"exactly full", two, 8)?;
-    show(out, b"one byte short", two, 7)?;
-    show(out, b"no room", two, 0)?;
-    show(out, b"nothing bound, no room", script, 0)
+    show(out, "exactly full", two, 8)?;
+    show(out, "one byte short", two, 7)?;
+    show(out, "no room", two, 0)?;
+    show(out, "nothing bound, no room", script, 0)
 }
 
 // ---- the order of refusals
 
 fn order(out: &mut impl Write, forged: State) -> Result<()> {
     let long = [0u8; 65536];
-    show_over(out, b"1 before 12", &long, forged, 2)?;
-    show_over(out, b"2 before 12", b"a\xc3", forged, 2)?;
-    show(out, b"12 before 10", forged, 0)
+    show_over(out, "1 before 12", &long, forged, 2)?;
+    show_over(out, "2 before 12", b"a\xc3", forged, 2)?;
+    show(out, "12 before 10", forged, 0)
 }
 
 // ---- forged records
 
 fn numbers(out: &mut impl Write, module: State) -> Result<()> {
     let one = bind(module, jsx());
-    show(out, b"numbered from 1", put(module, jsx(), 1), 2)?;
-    show(out, b"a gap", put(one, fragment(), 2), 2)?;
-    show(out, b"a number twice", put(one, fragment(), 0), 2)
+    show(out, "numbered from 1", put(module, jsx(), 1), 2)?;
+    show(out, "a gap", put(one, fragment(), 2), 2)?;
+    show(out, "a number twice", put(one, fragment(), 0), 2)
 }
 
 fn repeated(out: &mut impl Write, module: State, script: State) -> Result<()> {
     show(
         out,
-        b"a named import twice",
+        "a named import twice",
         put(put(module, jsx(), 0), jsx(), 1),
         2,
     )?;
     show(
         out,
-        b"a require twice",
+        "a require twice",
         put(put(script, Import::Default(1), 0), Import::Default(1), 1),
         2,
     )?;
     show(
         out,
-        b"a file name twice",
+        "a file name twice",
         put(put(script, Import::FileName, 0), Import::FileName, 1),
         2,
     )
@@ -144,18 +144,18 @@ fn repeated(out: &mut impl Write, module: State, script: State) -> Result<()> {
 
 fn counts(out: &mut impl Write, module: State) -> Result<()> {
     let one = bind(module, jsx());
-    show(out, b"9 records", filled(one, 9, 0, 0), 2)?;
+    show(out, "9 records", filled(one, 9, 0, 0), 2)?;
     show(
         out,
-        b"2 ^ 64 - 1 records",
+        "2 ^ 64 - 1 records",
         filled(one, 0xffff_ffff_ffff_ffff, 0, 0),
         2,
     )?;
-    show(out, b"8 records", filled(one, 8, 0, 0), 2)?;
+    show(out, "8 records", filled(one, 8, 0, 0), 2)?;
     let dead = put(one, Import::Named(9, 9), 9);
     show(
         out,
-        b"records behind the count are none",
+        "records behind the count are none",
         filled(dead, 1, 0, 0),
         6,
     )
@@ -166,20 +166,20 @@ fn counts(out: &mut impl Write, module: State) -> Result<()> {
 fn modules_cannot(out: &mut impl Write, module: State) -> Result<()> {
     show(
         out,
-        b"a require in a module",
+        "a require in a module",
         put(module, Import::Default(0), 0),
         2,
     )?;
-    show(out, b"name 5", put(module, Import::Named(1, 5), 0), 2)?;
+    show(out, "name 5", put(module, Import::Named(1, 5), 0), 2)?;
     show(
         out,
-        b"createElement of the runtime",
+        "createElement of the runtime",
         put(module, Import::Named(1, 1), 0),
         2,
     )?;
     show(
         out,
-        b"jsx of the import source",
+        "jsx of the import source",
         put(module, Import::Named(0, 2), 0),
         2,
     )
@@ -188,37 +188,37 @@ fn modules_cannot(out: &mut impl Write, module: State) -> Result<()> {
 fn plugins_cannot(out: &mut impl Write, module: State, development: State) -> Result<()> {
     show(
         out,
-        b"file name without the plugin",
+        "file name without the plugin",
         put(module, Import::FileName, 0),
         2,
     )?;
     show(
         out,
-        b"jsxDEV without development",
+        "jsxDEV without development",
         put(module, Import::Named(1, 4), 0),
         2,
     )?;
-    show(out, b"jsx in development", put(development, jsx(), 0), 2)?;
+    show(out, "jsx in development", put(development, jsx(), 0), 2)?;
     show(
         out,
-        b"jsxs in development",
+        "jsxs in development",
         put(development, Import::Named(1, 3), 0),
         2,
     )
 }
 
 fn others_cannot(out: &mut impl Write, script: State, classic: State) -> Result<()> {
-    show(out, b"a named import in a script", put(script, jsx(), 0), 2)?;
-    show(out, b"source 2", put(script, Import::Default(2), 0), 2)?;
+    show(out, "a named import in a script", put(script, jsx(), 0), 2)?;
+    show(out, "source 2", put(script, Import::Default(2), 0), 2)?;
     show(
         out,
-        b"a named import in classic",
+        "a named import in classic",
         put(classic, create_element(), 0),
         2,
     )?;
     show(
         out,
-        b"a require in classic",
+        "a require in classic",
         put(classic, Import::Default(0), 0),
         2,
     )
@@ -226,61 +226,101 @@ fn others_cannot(out: &mut impl Write, script: State, classic: State) -> Result<
 
 // ---- forged settings
 
-fn at(start: u16, len: u16) -> Optional {
-    Optional::Present(Span { start, len })
+fn at(start: u16, len: u16) -> Option<Span> {
+    Some(Span { start, len })
 }
 
 // Settings over `a` and a character of two bytes.
-fn show_spans(out: &mut impl Write, label: &[u8], settings: Settings) -> Result<()> {
+fn show_spans(out: &mut impl Write, label: &str, settings: Settings) -> Result<()> {
     show_over(out, label, b"a\xc3\xa9", opened(settings), 2)
 }
 
+fn show_options(
+    out: &mut impl Write,
+    label: &str,
+    settings: Settings,
+    options: Options,
+) -> Result<()> {
+    show_spans(
+        out,
+        label,
+        Settings {
+            options,
+            ..settings
+        },
+    )
+}
+
 fn pragma_spans(out: &mut impl Write, settings: Settings) -> Result<()> {
-    let none = Optional::Absent;
+    let options = settings.options;
     let far = at(0, 4);
-    show_spans(
+    show_options(
         out,
-        b"pragma outside",
-        spans(settings, far, none, none, none, none),
+        "pragma outside",
+        settings,
+        Options {
+            pragma: far,
+            ..options
+        },
     )?;
-    show_spans(
+    show_options(
         out,
-        b"fragment pragma outside",
-        spans(settings, none, far, none, none, none),
+        "fragment pragma outside",
+        settings,
+        Options {
+            pragma_frag: far,
+            ..options
+        },
     )?;
-    show_spans(
+    show_options(
         out,
-        b"TypeScript pragma outside",
-        spans(settings, none, none, none, far, none),
+        "TypeScript pragma outside",
+        settings,
+        Options {
+            ts_pragma: far,
+            ..options
+        },
     )?;
-    show_spans(
+    show_options(
         out,
-        b"its fragment pragma outside",
-        spans(settings, none, none, none, none, far),
+        "its fragment pragma outside",
+        settings,
+        Options {
+            ts_pragma_frag: far,
+            ..options
+        },
     )
 }
 
 fn show_source(
     out: &mut impl Write,
-    label: &[u8],
+    label: &str,
     settings: Settings,
-    source: Optional,
+    import_source: Option<Span>,
 ) -> Result<()> {
-    let none = Optional::Absent;
-    show_spans(out, label, spans(settings, none, none, source, none, none))
+    let options = settings.options;
+    show_options(
+        out,
+        label,
+        settings,
+        Options {
+            import_source,
+            ..options
+        },
+    )
 }
 
 fn source_spans(out: &mut impl Write, settings: Settings) -> Result<()> {
-    show_source(out, b"import source outside", settings, at(0, 4))?;
-    show_source(out, b"far outside", settings, at(65535, 65535))?;
-    show_source(out, b"cut at its start", settings, at(2, 1))?;
-    show_source(out, b"cut at its end", settings, at(0, 2))
+    show_source(out, "import source outside", settings, at(0, 4))?;
+    show_source(out, "far outside", settings, at(65535, 65535))?;
+    show_source(out, "cut at its start", settings, at(2, 1))?;
+    show_source(out, "cut at its end", settings, at(0, 2))
 }
 
 fn empty_spans(out: &mut impl Write, settings: Settings) -> Result<()> {
-    show_source(out, b"empty within a character", settings, at(2, 0))?;
-    show_source(out, b"empty at the end", settings, at(3, 0))?;
-    show_source(out, b"the whole text", settings, at(0, 3))
+    show_source(out, "empty within a character", settings, at(2, 0))?;
+    show_source(out, "empty at the end", settings, at(3, 0))?;
+    show_source(out, "the whole text", settings, at(0, 3))
 }
 
 fn form(root: PragmaRoot, tail: usize) -> Form {
@@ -290,44 +330,47 @@ fn form(root: PragmaRoot, tail: usize) -> Form {
 // `a.b` for both pragmas, which are said to have these forms.
 fn show_forms(
     out: &mut impl Write,
-    label: &[u8],
+    label: &str,
     mode: Mode,
     pragma: Form,
     pragma_frag: Form,
 ) -> Result<()> {
-    let none = Optional::Absent;
-    let both = at(0, 3);
-    let given = spans(settings(mode, false, false), both, both, none, none, none);
-    show_over(
-        out,
-        label,
-        b"a.b",
-        opened(forms(given, pragma, pragma_frag)),
-        2,
-    )
+    let given = settings(mode, false, false);
+    let options = Options {
+        pragma: at(0, 3),
+        pragma_frag: at(0, 3),
+        ..given.options
+    };
+    let forged = Settings {
+        options,
+        pragma,
+        pragma_frag,
+        ..given
+    };
+    show_over(out, label, b"a.b", opened(forged), 2)
 }
 
 fn pragma_forms(out: &mut impl Write) -> Result<()> {
     let right = form(PragmaRoot::Identifier, 1);
     let wrong = form(PragmaRoot::Default, 0);
-    show_forms(out, b"right forms", Mode::Classic, right, right)?;
+    show_forms(out, "right forms", Mode::Classic, right, right)?;
     show_forms(
         out,
-        b"another root",
+        "another root",
         Mode::Classic,
         form(PragmaRoot::This, 1),
         right,
     )?;
     show_forms(
         out,
-        b"another tail",
+        "another tail",
         Mode::Classic,
         form(PragmaRoot::Identifier, 2),
         right,
     )?;
     show_forms(
         out,
-        b"another form of the fragment",
+        "another form of the fragment",
         Mode::Classic,
         right,
         wrong,
@@ -336,10 +379,10 @@ fn pragma_forms(out: &mut impl Write) -> Result<()> {
 
 fn module_forms(out: &mut impl Write) -> Result<()> {
     let right = form(PragmaRoot::Default, 0);
-    show_forms(out, b"no forms in a module", Mode::Module, right, right)?;
+    show_forms(out, "no forms in a module", Mode::Module, right, right)?;
     show_forms(
         out,
-        b"a form in a module",
+        "a form in a module",
         Mode::Module,
         form(PragmaRoot::Identifier, 1),
         right,
@@ -349,31 +392,25 @@ fn module_forms(out: &mut impl Write) -> Result<()> {
 // ---- fills, which only a root looks at
 
 fn fills(out: &mut impl Write, module: State) -> Result<()> {
-    show(out, b"fills without a target", filled(module, 0, 9, 9), 1)?;
+    show(out, "fills without a target", filled(module, 0, 9, 9), 1)?;
+    show_forged(out, "fills at their targets", filled(module, 0, 8, 4), 8, 4)?;
     show_forged(
         out,
-        b"fills at their targets",
-        filled(module, 0, 8, 4),
-        8,
-        4,
-    )?;
-    show_forged(
-        out,
-        b"call fill above its target",
+        "call fill above its target",
         filled(module, 0, 9, 4),
         8,
         4,
     )?;
     show_forged(
         out,
-        b"notice fill above its target",
+        "notice fill above its target",
         filled(module, 0, 8, 5),
         8,
         4,
     )?;
     show_forged(
         out,
-        b"9 records, empty targets",
+        "9 records, empty targets",
         filled(module, 9, 0, 0),
         0,
         0,
@@ -383,21 +420,21 @@ fn fills(out: &mut impl Write, module: State) -> Result<()> {
 // ---- adding
 
 fn adding(out: &mut impl Write, module: State) -> Result<()> {
-    show_added(out, b"the first", module, jsx())?;
-    show_added(out, b"a second", bind(module, jsx()), fragment())?;
+    show_added(out, "the first", module, jsx())?;
+    show_added(out, "a second", bind(module, jsx()), fragment())?;
     show_added(
         out,
-        b"the first again",
+        "the first again",
         bind(bind(module, jsx()), fragment()),
         jsx(),
     )
 }
 
 fn adding_last(out: &mut impl Write, seven: State) -> Result<()> {
-    show_added(out, b"the eighth", seven, fragment())?;
-    show_added(out, b"a ninth", filled(seven, 8, 0, 0), fragment())?;
-    show_added(out, b"one of eight", filled(seven, 8, 0, 0), jsx())?;
-    show_added(out, b"beyond eight", filled(seven, 9, 0, 0), jsx())
+    show_added(out, "the eighth", seven, fragment())?;
+    show_added(out, "a ninth", filled(seven, 8, 0, 0), fragment())?;
+    show_added(out, "one of eight", filled(seven, 8, 0, 0), jsx())?;
+    show_added(out, "beyond eight", filled(seven, 9, 0, 0), jsx())
 }
 
 fn run(out: &mut impl Write) -> Result<()> {

@@ -1,4 +1,3 @@
 pub mod Targets
 pub mod ReadBack
 pub mod Filling
-pub mod Shifts

@@ -1,6 +1,7 @@
 -- Runs of bytes written into a target (`sets` of lib.Seq, `Wrote` of specs/Targets).
 --     sets_append, sets_out, sets_nil     a run is its parts in turn; past the end, and into an empty target, nothing is stored
 --     sets_room                           what a target holds that has room for the run
+--     sets_mid                            the run in a part's place
 --     wrote_nothing, wrote_then           the empty run, and one run after another
 --     wrote_as                            the same run, written otherwise
 --     wrote_length, wrote_nil             the target keeps its length; an empty one stays empty
@@ -10,10 +11,12 @@
 use mathlib.Core.Path.{◌≡◌, refl, sym, ap, subst, ◌∙◌}
 use mathlib.Core.Logic.{⊎_elim, ◌⊎◌, inl, inr}
 use mathlib.Core.List.{List, [], ◌∷◌, ◌++◌}
-use Prim.Native.Nat.{ℕ, zero, suc, ◌+◌, ◌≤◌, ◌<◌, ◌^◌, zero-le, suc-le-suc}
+use Prim.Native.Nat.{ℕ, zero, suc, ◌+◌, ◌-◌, ◌≤◌, ◌<◌, ◌^◌, zero-le, suc-le-suc}
 use native.Mathlib.Nat.{add-zero, add-suc, suc-add}
 use native.Mathlib.Omega.{arith}
 use lib.ListN.{length, take, drop, set, length-append}
+use Rattle.std.proofs.Common.{append_assoc}
+use borrow.Rule.Slice.PartMut.{put_mid, Post-is}
 use lib.Seq.{sets, sets-eq, length-sets, set_out}
 use Rattle.tape.specs.Targets.{Wrote}
 
@@ -32,6 +35,9 @@ sets_nil i v = sets_out [] i v zero-le
 
 pub sets_room : (o : List ℕ) (at : ℕ) (bs : List ℕ) → at + length bs ≤ length o → sets o at bs ≡ take at o ++ bs ++ drop (at + length bs) o
 sets_room o at bs h = sets-eq bs o at h
+
+pub sets_mid : (o : List ℕ) (at : ℕ) (bs : List ℕ) → at + length bs ≤ length o → put_mid at (at + length bs - at) o bs ≡ sets o at bs
+sets_mid o at bs h = rw (Post-is at (at + length bs) o (omega arith)) (sym (sets_room o at bs h ∙ append_assoc (take at o) bs (drop (at + length bs) o)))
 
 -- ---- writes
 

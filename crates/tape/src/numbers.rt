@@ -1,21 +1,71 @@
 // Numbers on tapes: little-endian, two or four bytes.
-ghost use Rattle.std.specs.Prelude.{◌≡◌, ◌+◌, ◌*◌, ◌≤◌, length};
+ghost use Rattle.std.specs.Prelude.{◌≡◌, ◌+◌, ◌*◌, ◌≤◌, ℕ, List, length, get_or};
 ghost use Rattle.tape.specs.Numbers.{u16_at, u32_at, span_at};
 
 use text::spans::Span;
 
-// The number of two bytes, the low one first.
-fn word(a: u8, b: u8) -> u16
-    ensures { result ≡ a + b * 256 }
-{
-    (a as u16) | ((b as u16) << 8)
+// What a tape carries behind a command's code: a value that takes SIZE bytes, and can be read off any place that has them.
+pub trait Operand {
+    ghost SIZE: { ℕ };
+
+    ghost value: { List ℕ → ℕ → Self };
+
+    const SIZE: usize;
+
+    fn read(tape: &[u8], at: usize) -> Self
+        requires { at + SIZE ≤ length tape.now }
+        ensures { result ≡ value tape.now at };
 }
 
-// The number of four bytes, the lowest first.
-fn long(a: u8, b: u8, c: u8, d: u8) -> u32
-    ensures { result ≡ a + b * 256 + c * 65536 + d * 16777216 }
-{
-    (a as u32) | ((b as u32) << 8) | ((c as u32) << 16) | ((d as u32) << 24)
+impl Operand for u8 {
+    ghost SIZE = { 1 };
+
+    ghost value = { λ t i. get_or t i 0 };
+
+    const SIZE: usize = 1;
+
+    fn read(tape: &[u8], at: usize) -> u8 {
+        tape[at]
+    }
+}
+
+impl Operand for u16 {
+    ghost SIZE = { 2 };
+
+    ghost value = { u16_at };
+
+    const SIZE: usize = 2;
+
+    fn read(tape: &[u8], at: usize) -> u16 {
+        u16::from_le_bytes([tape[at], tape[at + 1]])
+    }
+}
+
+impl Operand for u32 {
+    ghost SIZE = { 4 };
+
+    ghost value = { u32_at };
+
+    const SIZE: usize = 4;
+
+    fn read(tape: &[u8], at: usize) -> u32 {
+        u32::from_le_bytes([tape[at], tape[at + 1], tape[at + 2], tape[at + 3]])
+    }
+}
+
+impl Operand for Span {
+    ghost SIZE = { 4 };
+
+    ghost value = { span_at };
+
+    const SIZE: usize = 4;
+
+    fn read(tape: &[u8], at: usize) -> Span {
+        Span {
+            start: u16::read(tape, at),
+            len: u16::read(tape, at + 2),
+        }
+    }
 }
 
 // The number of the two bytes from `at` on.
@@ -23,7 +73,7 @@ pub fn read_u16(tape: &[u8], at: usize) -> u16
     requires { at + 2 ≤ length tape.now }
     ensures { result ≡ u16_at tape.now at }
 {
-    word(tape[at], tape[at + 1])
+    u16::read(tape, at)
 }
 
 // The number of the four bytes from `at` on.
@@ -31,7 +81,7 @@ pub fn read_u32(tape: &[u8], at: usize) -> u32
     requires { at + 4 ≤ length tape.now }
     ensures { result ≡ u32_at tape.now at }
 {
-    long(tape[at], tape[at + 1], tape[at + 2], tape[at + 3])
+    u32::read(tape, at)
 }
 
 // The span of the four bytes from `at` on.
@@ -39,8 +89,5 @@ pub fn read_span(tape: &[u8], at: usize) -> Span
     requires { at + 4 ≤ length tape.now }
     ensures { result ≡ span_at tape.now at }
 {
-    Span {
-        start: read_u16(tape, at),
-        len: read_u16(tape, at + 2),
-    }
+    Span::read(tape, at)
 }

@@ -7,16 +7,25 @@ use crate::limits::MAX_LENGTH;
 // The number that an entry without a refusal of its own answers.
 pub const FORGED: u8 = 12;
 
-// What can be wrong at a command of a tape.
+// What can be wrong at a command of a tape, by its number.
 #[derive(Clone, Copy)]
 pub enum Fault {
-    Grammar,
-    Outside,
-    Cuts,
-    EmptyName,
-    Depth,
-    Reference,
-    Position,
+    Grammar = 3,
+    Outside = 4,
+    Cuts = 13,
+    EmptyName = 14,
+    Depth = 6,
+    Reference = 7,
+    Position = 8,
+}
+
+impl Fault {
+    #[tactic(auto, unfolding(crate::specs::Refusals::fault_number))]
+    pub fn number(self) -> u8
+        ensures { result ≡ fault_number self }
+    {
+        self as u8
+    }
 }
 
 // Why an entry turned its input away: with a place in the text or on the tape, or with the bytes it would write.
@@ -32,46 +41,51 @@ pub enum Refusal {
     Forged,
 }
 
+impl Refusal {
+    #[tactic(auto, unfolding(crate::specs::Refusals::number_of))]
+    pub fn number(self) -> u8
+        ensures { result ≡ number_of self }
+    {
+        match self {
+            Refusal::TooLong => 1,
+            Refusal::NotUtf8(_) => 2,
+            Refusal::Tape(fault, _) => fault.number(),
+            Refusal::PragmaByte(_) => 5,
+            Refusal::Bindings => 9,
+            Refusal::Space(_) => 10,
+            Refusal::NoticeSpace(_) => 11,
+            Refusal::Forged => FORGED,
+        }
+    }
+
+    #[tactic(auto, unfolding(crate::specs::Refusals::figure_of))]
+    pub fn figure(self) -> usize
+        ensures { result ≡ figure_of self }
+    {
+        match self {
+            Refusal::TooLong => MAX_LENGTH,
+            Refusal::NotUtf8(place) | Refusal::Tape(_, place) | Refusal::PragmaByte(place) => place,
+            Refusal::Bindings => 8,
+            Refusal::Space(size) | Refusal::NoticeSpace(size) => size,
+            Refusal::Forged => 0,
+        }
+    }
+}
+
 pub fn fault_number(f: Fault) -> u8
     ensures { result ≡ fault_number f }
 {
-    match f {
-        Fault::Grammar => 3,
-        Fault::Outside => 4,
-        Fault::Cuts => 13,
-        Fault::EmptyName => 14,
-        Fault::Depth => 6,
-        Fault::Reference => 7,
-        Fault::Position => 8,
-    }
+    f.number()
 }
 
 pub fn number(r: Refusal) -> u8
     ensures { result ≡ number_of r }
 {
-    match r {
-        Refusal::TooLong => 1,
-        Refusal::NotUtf8(_) => 2,
-        Refusal::Tape(f, _) => fault_number(f),
-        Refusal::PragmaByte(_) => 5,
-        Refusal::Bindings => 9,
-        Refusal::Space(_) => 10,
-        Refusal::NoticeSpace(_) => 11,
-        Refusal::Forged => FORGED,
-    }
+    r.number()
 }
 
 pub fn figure(r: Refusal) -> usize
     ensures { result ≡ figure_of r }
 {
-    match r {
-        Refusal::TooLong => MAX_LENGTH,
-        Refusal::NotUtf8(p) => p,
-        Refusal::Tape(_, p) => p,
-        Refusal::PragmaByte(p) => p,
-        Refusal::Bindings => 8,
-        Refusal::Space(n) => n,
-        Refusal::NoticeSpace(n) => n,
-        Refusal::Forged => 0,
-    }
+    r.figure()
 }

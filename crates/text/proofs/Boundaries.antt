@@ -10,7 +10,7 @@ use native.Mathlib.Omega.{arith}
 use lib.ListN.{length, get_or, drop, length-drop}
 use lib.Dec.{leb-suc-suc, eqb-suc-zero}
 use borrow.Author.Tests.{lt-ltb}
-use Rattle.text.specs.declared.bytes.Found.TheVariants.{Nothing}
+use Rattle.std.specs.Prelude.{None}
 use Rattle.text.specs.Utf8.{width, after, ill_from, first_ill}
 use Rattle.text.specs.Spans.{continues, cuts_at, boundary_from, is_boundary}
 use Rattle.text.proofs.Sequences.{sequence, width_le}
@@ -25,19 +25,19 @@ unfolding cuts_at
 cuts_next b l i = rw (leb-suc-suc (suc i) (length l))
 
 -- a text without ill-formed sequences begins with a sequence, after which it is well-formed too
-pub begins : (b : ℕ) (l : List ℕ) (at : ℕ) → ill_from 0 at (b ∷ l) ≡ Nothing
-    → (n : ℕ) × (width (b ∷ l) ≡ suc n) × (ill_from n (suc at) l ≡ Nothing)
+pub begins : (b : ℕ) (l : List ℕ) (at : ℕ) → ill_from 0 at (b ∷ l) ≡ None
+    → (n : ℕ) × (width (b ∷ l) ≡ suc n) × (ill_from n (suc at) l ≡ None)
 unfolding ill_from after
 begins b l at e = go (width (b ∷ l)) refl e
   where
-    go : (w : ℕ) → width (b ∷ l) ≡ w → after w at (λ n. ill_from n (suc at) l) ≡ Nothing
-        → (n : ℕ) × (width (b ∷ l) ≡ suc n) × (ill_from n (suc at) l ≡ Nothing)
+    go : (w : ℕ) → width (b ∷ l) ≡ w → after w at (λ n. ill_from n (suc at) l) ≡ None
+        → (n : ℕ) × (width (b ∷ l) ≡ suc n) × (ill_from n (suc at) l ≡ None)
     go zero q e = let z : ◌≡◌ {A = ℕ} 0 1 = cc in absurd (omega arith)
     go (suc n) q e = (n, q, e)
 
 -- ---- where a text is cut
 -- with n bytes of a character to pass, all of which continue it
-cuts_from : (l : List ℕ) (n at i : ℕ) → i ≤ length l → ill_from n at l ≡ Nothing
+cuts_from : (l : List ℕ) (n at i : ℕ) → i ≤ length l → ill_from n at l ≡ None
     → ((k : ℕ) → k < n → continues (get_or l k 0) ≡ true) → cuts_at l i ≡ not (boundary_from n l i)
 unfolding ill_from boundary_from cuts_at
 cuts_from [] n at zero h e t = refl
@@ -51,7 +51,7 @@ cuts_from (b ∷ l) zero at (suc i) h e t =
 cuts_from (b ∷ l) (suc n) at (suc i) h e t =
     cuts_next b l i ∙ cuts_from l n (suc at) i (le_of_suc-le-suc h) e (λ k j. t (suc k) (omega arith))
 
-pub cuts_boundary : (text : List ℕ) (i : ℕ) → first_ill text ≡ Nothing → i ≤ length text
+pub cuts_boundary : (text : List ℕ) (i : ℕ) → first_ill text ≡ None → i ≤ length text
     → cuts_at text i ≡ not (is_boundary text i)
 unfolding first_ill is_boundary
 cuts_boundary text i e h = cuts_from text 0 0 i h e (λ k j. absurd (not-suc-le-zero j))
@@ -69,8 +69,8 @@ boundary_shift (b ∷ l) (suc n) zero j e = absurd (never e)
 boundary_shift (b ∷ l) zero (suc i) j e = rw (suc-add i j) (boundary_shift l (width (b ∷ l) - 1) i j e)
 boundary_shift (b ∷ l) (suc n) (suc i) j e = rw (suc-add i j) (boundary_shift l n i j e)
 
-ill_shift : (l : List ℕ) (n at i : ℕ) → ill_from n at l ≡ Nothing → boundary_from n l i ≡ true
-    → ill_from 0 (at + i) (drop i l) ≡ Nothing
+ill_shift : (l : List ℕ) (n at i : ℕ) → ill_from n at l ≡ None → boundary_from n l i ≡ true
+    → ill_from 0 (at + i) (drop i l) ≡ None
 unfolding boundary_from ill_from
 ill_shift [] n at zero e h = refl
 ill_shift [] n at (suc i) e h = refl
@@ -81,7 +81,7 @@ ill_shift (b ∷ l) zero at (suc i) e h =
 ill_shift (b ∷ l) (suc n) at (suc i) e h = rw (add-suc at i, ← suc-add at i) (ill_shift l n (suc at) i e h)
 
 -- where the list stands in a text is of no account
-ill_anywhere : (l : List ℕ) (n at to : ℕ) → ill_from n at l ≡ Nothing → ill_from n to l ≡ Nothing
+ill_anywhere : (l : List ℕ) (n at to : ℕ) → ill_from n at l ≡ None → ill_from n to l ≡ None
 unfolding ill_from after
 ill_anywhere [] n at to e = refl
 ill_anywhere (b ∷ l) zero at to e = let s = begins b l at e in rw s.1 (ill_anywhere l s.0 (suc at) (suc to) s.2)
@@ -92,7 +92,7 @@ module _ (text : List ℕ) (i : ℕ) (h : is_boundary text i ≡ true) where
   unfolding is_boundary
   boundary_rest j = boundary_shift text 0 i j h
 
-  pub rest_well_formed : first_ill text ≡ Nothing → first_ill (drop i text) ≡ Nothing
+  pub rest_well_formed : first_ill text ≡ None → first_ill (drop i text) ≡ None
   unfolding is_boundary first_ill
   rest_well_formed e = ill_anywhere (drop i text) 0 (0 + i) 0 (ill_shift text 0 0 i e h)
 
@@ -137,11 +137,11 @@ unfolding is_boundary
 boundary_end text = boundary_last text 0
 
 -- a character stands at every boundary before the end
-pub width_positive : (text : List ℕ) (i : ℕ) → first_ill text ≡ Nothing → is_boundary text i ≡ true → i < length text
+pub width_positive : (text : List ℕ) (i : ℕ) → first_ill text ≡ None → is_boundary text i ≡ true → i < length text
     → 0 < width (drop i text)
 unfolding first_ill
 width_positive text i e h k = go (drop i text) (omega (arith, length-drop i text)) (rest_well_formed text i h e)
   where
-    go : (l : List ℕ) → 0 < length l → first_ill l ≡ Nothing → 0 < width l
+    go : (l : List ℕ) → 0 < length l → first_ill l ≡ None → 0 < width l
     go [] k e = absurd (not-suc-le-zero k)
     go (b ∷ l) k e = let s = begins b l 0 e in omega (arith, s.1)

@@ -5,6 +5,5 @@ pub mod Parts
 pub mod Rows
 pub mod Sequences
 pub mod Walking
-pub mod Decoding
 pub mod Boundaries
 pub mod Prefixes

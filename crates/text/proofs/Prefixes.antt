@@ -11,7 +11,7 @@ use lib.ListN.{length, get_or, take, drop, length-take}
 use lib.Seq.{get_or-take}
 use lib.Dec.{ltb, leb}
 use borrow.Author.Tests.{ltb-true, ltb-false, lt-ltb, le-ltb}
-use Rattle.text.specs.declared.bytes.Found.TheVariants.{Nothing}
+use Rattle.std.specs.Prelude.{None}
 use Rattle.text.specs.declared.spans.Span.{Span}
 use Rattle.text.specs.declared.spans.Bounds.TheVariants.{Outside, Cuts}
 use Rattle.text.specs.Utf8.{Row, table, within, matches, width_by, width, after, ill_from, first_ill}
@@ -69,7 +69,7 @@ boundary_past [] (suc n) i h e = absurd (not-suc-le-zero h)
 boundary_past (b ∷ l) (suc n) zero h e = absurd (never e)
 boundary_past (b ∷ l) (suc n) (suc i) h e = omega (arith, boundary_past l n i (le_of_suc-le-suc h) e)
 
-ill_take : (l : List ℕ) (n at i : ℕ) → ill_from n at l ≡ Nothing → boundary_from n l i ≡ true → ill_from n at (take i l) ≡ Nothing
+ill_take : (l : List ℕ) (n at i : ℕ) → ill_from n at l ≡ None → boundary_from n l i ≡ true → ill_from n at (take i l) ≡ None
 unfolding ill_from boundary_from after
 ill_take [] n at zero e h = refl
 ill_take [] n at (suc i) e h = refl
@@ -82,12 +82,12 @@ ill_take (b ∷ l) zero at (suc i) e h =
     rw f (ill_take l s.0 (suc at) i s.2 (rw (s.1, sub-one) at h))
 ill_take (b ∷ l) (suc n) at (suc i) e h = ill_take l n (suc at) i e h
 
-pub front_well_formed : (text : List ℕ) (i : ℕ) → first_ill text ≡ Nothing → is_boundary text i ≡ true → first_ill (take i text) ≡ Nothing
+pub front_well_formed : (text : List ℕ) (i : ℕ) → first_ill text ≡ None → is_boundary text i ≡ true → first_ill (take i text) ≡ None
 unfolding first_ill is_boundary
 front_well_formed text i e h = ill_take text 0 0 i e h
 
 -- ---- the part that a span names
-module _ (text : List ℕ) (s : Span) (good : first_ill text ≡ Nothing)
+module _ (text : List ℕ) (s : Span) (good : first_ill text ≡ None)
     (inside : bounds_of text s ≡ Outside → ⊥) (whole : bounds_of text s ≡ Cuts → ⊥) where
   at_boundary : (i : ℕ) → i ≤ length text → cuts_at text i ≡ false → is_boundary text i ≡ true
   at_boundary i h e = go (is_boundary text i) (sym (cuts_boundary text i good h) ∙ e)
@@ -102,7 +102,7 @@ module _ (text : List ℕ) (s : Span) (good : first_ill text ≡ Nothing)
   pub end_boundary : is_boundary text (s.start + s.len) ≡ true
   end_boundary = at_boundary (s.start + s.len) (bounds_inside text s inside) (bounds_uncut text s inside whole).1
 
-  pub part_well_formed : first_ill (part_of text s) ≡ Nothing
+  pub part_well_formed : first_ill (part_of text s) ≡ None
   unfolding part_of
   part_well_formed =
       front_well_formed (drop s.start text) s.len (rest_well_formed text s.start start_boundary good)

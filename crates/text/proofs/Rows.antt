@@ -1,12 +1,15 @@
 -- The first byte tells the row of Table 3-7: the rows before it end below that byte, and those after it begin above. Assumes nothing.
 use mathlib.Core.Path.{◌≡◌, refl, sym, ◌∙◌}
-use mathlib.Core.Bool.{true, false, and-false}
+use mathlib.Core.Bool.{true, false, ◌&&◌, and-false}
 use mathlib.Core.List.{List, [], ◌∷◌}
-use Prim.Native.Nat.{ℕ, zero, suc, ◌≤◌, ◌<◌}
+use Prim.Native.Nat.{ℕ, zero, suc, ◌+◌, ◌≤◌, ◌<◌}
+use native.Mathlib.Numerals.{add-one}
 use native.Mathlib.Omega.{arith}
-use lib.ListN.{length, get_or, take, drop}
+use lib.ListN.{length, get_or, take, drop, drop_of_length-le}
+use lib.Seq.{drop-cons}
 use borrow.Author.Tests.{lt-ltb, le-leb, lt-leb}
-use Rattle.text.specs.Utf8.{Row, table, within, width_by, rest, width}
+use Rattle.std.specs.Prelude.{Some, None}
+use Rattle.text.specs.Utf8.{Row, table, within, matches, width_by, rest, nonzero, width}
 
 -- every row ends below the byte, every row begins above it, and it is the row's first byte
 abbrev pub Over : ℕ → List Row → Type 0
@@ -79,3 +82,24 @@ pub no_byte : (l : List ℕ) → length l ≡ 0 → 0 ≡ width l
 unfolding width within
 no_byte [] e = refl
 no_byte (b ∷ l) e = absurd (omega arith)
+
+-- ---- a loop over a row: what is left of it decides
+module _ (l : List ℕ) (r : Row) (i : ℕ) where
+  pub row_step : i < length r
+      → matches (i + 1) (drop i r) l ≡ (within l (i + 1) (get_or r i (0, 0)).0 (get_or r i (0, 0)).1 && matches (i + 1 + 1) (drop (i + 1) r) l)
+  row_step h =
+      let d : drop i r ≡ get_or r i (0, 0) ∷ drop (i + 1) r = rw (add-one) (drop-cons r i (0, 0) h) in
+      let e : suc (i + 1) ≡ i + 1 + 1 = omega arith in
+      rw (d, e)
+
+  pub row_end : length r ≤ i → matches (i + 1) (drop i r) l ≡ true
+  row_end h = rw (drop_of_length-le r h)
+
+-- ---- a width as an option
+pub no_width : (n : ℕ) → nonzero n ≡ None → n ≡ 0
+no_width zero e = refl
+no_width (suc n) e = cc
+
+pub some_width : (n w : ℕ) → nonzero n ≡ Some w → (n ≡ w) × (0 < w)
+some_width zero w e = cc
+some_width (suc n) w e = let q : suc n ≡ w = cc in (q, omega arith)

@@ -5,11 +5,11 @@ use mathlib.Core.List.{List, [], ◌∷◌}
 use Prim.Native.Nat.{ℕ, zero, suc, ◌+◌, ◌-◌, ◌≤◌, ◌<◌}
 use native.Mathlib.Nat.{add-zero, add-suc, suc-add, le_of_suc-le-suc, not-suc-le-zero}
 use native.Mathlib.Omega.{arith}
-use lib.ListN.{length, get_or, take, drop, length-drop, drop_of_length-le}
+use lib.ListN.{length, get_or, take, drop, length-drop}
 use lib.Seq.{drop-drop, drop-length}
 use borrow.Author.Tests.{leb-false}
-use Rattle.text.specs.declared.bytes.Found.{Found}
-use Rattle.text.specs.declared.bytes.Found.TheVariants.{At, Nothing}
+use Rattle.std.specs.Prelude.{Option}
+use Rattle.std.specs.Prelude.{Some, None}
 use Rattle.text.specs.Bytes.{find, over_ascii}
 use Rattle.text.specs.Utf8.{width, after, ill_from, first_ill}
 use Rattle.text.proofs.Lists.{tail_part}
@@ -26,7 +26,7 @@ ill_pass zero at (b ∷ l) h = rw add-zero
 ill_pass (suc n) at [] h = absurd (not-suc-le-zero h)
 ill_pass (suc n) at (b ∷ l) h = ill_pass n (suc at) l (le_of_suc-le-suc h) ∙ rw (suc-add at n, add-suc at n)
 
-pub ill_here : (at : ℕ) (l : List ℕ) → 0 < length l → width l ≡ 0 → ill_from 0 at l ≡ At at
+pub ill_here : (at : ℕ) (l : List ℕ) → 0 < length l → width l ≡ 0 → ill_from 0 at l ≡ Some at
 unfolding ill_from after
 ill_here at [] h e = absurd (not-suc-le-zero h)
 ill_here at (b ∷ l) h e = rw e
@@ -61,22 +61,18 @@ unfolding first_ill
 come_start s = record { inside = omega arith; same = refl }
 
 module _ (s : List ℕ) (i : ℕ) (come : Come s i) where
-  pub come_end : length s ≤ i → first_ill s ≡ Nothing
-  unfolding ill_from
-  come_end h = come.same ∙ rw (drop_of_length-le s h)
-
   -- the part from i on is searched for a byte over 7F
-  module _ (f : Found) (e : f ≡ find over_ascii (take (length s - i) (drop i s))) where
+  module _ (f : Option ℕ) (e : f ≡ find over_ascii (take (length s - i) (drop i s))) where
     over : find over_ascii (drop i s) ≡ f
     over = sym (e ∙ ap (find over_ascii) (tail_part s i))
 
-    pub come_plain : f ≡ Nothing → first_ill s ≡ Nothing
+    pub come_plain : f ≡ None → first_ill s ≡ None
     unfolding ill_from
     come_plain z =
         come.same ∙ ill_run (length (drop i s)) i (drop i s) (omega arith) (find_none over_ascii (drop i s) 0 (over ∙ z))
         ∙ rw (drop-length (drop i s))
 
-    pub come_run : (n : ℕ) → f ≡ At n → (i + n < length s) × Come s (i + n)
+    pub come_run : (n : ℕ) → f ≡ Some n → (i + n < length s) × Come s (i + n)
     come_run n z =
         let t = find_found over_ascii (drop i s) n (over ∙ z) in
         let h : i + n < length s = omega (arith, t.inside, length-drop i s) in (
@@ -92,7 +88,7 @@ module _ (s : List ℕ) (i : ℕ) (come : Come s i) where
     at_i : width (drop i s) ≡ w
     at_i = sym (e ∙ ap width (tail_part s i))
 
-    pub come_stop : w ≡ 0 → first_ill s ≡ At i
+    pub come_stop : w ≡ 0 → first_ill s ≡ Some i
     come_stop z = come.same ∙ ill_here i (drop i s) (omega (arith, length-drop i s)) (at_i ∙ z)
 
     pub come_step : (w ≡ 0 → ⊥) → Come s (i + w)

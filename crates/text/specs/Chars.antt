@@ -1,11 +1,15 @@
 -- Characters of a text and their classes, from ECMA-262, "White Space" and "Line Terminators".
-use Rattle.std.specs.Prelude.{ℕ, Bool, ◌&&◌, ◌||◌, List, take, eqb, leb}
+use Rattle.std.specs.Prelude.{ℕ, Bool, ◌&&◌, ◌||◌, List, take, eqb, leb, Option, option_map}
 use Rattle.text.specs.declared.chars.Char.{Char}
-use Rattle.text.specs.Utf8.{width, code_of}
+use Rattle.text.specs.Utf8.{width, nonzero, code_of}
 
--- the character at the front of a text: its code point and how many bytes it takes; 0 and 0 where no well-formed sequence stands there
-unfoldable pub char_of : List ℕ → Char
-char_of l = record { code = code_of (take (width l) l); width = width l }
+-- the code point of the sequence at the front of a text
+unfoldable pub front_code : List ℕ → ℕ
+front_code l = code_of (take (width l) l)
+
+-- the character at the front of a text, its code point and how many bytes it takes, where a well-formed sequence stands there
+unfoldable pub char_of : List ℕ → Option Char
+char_of l = option_map (λ w. record { code = front_code l; width = w }) (nonzero (width l))
 
 -- the general category Zs of the Unicode Standard
 abbrev pub is_space_separator : ℕ → Bool

@@ -1,12 +1,12 @@
 -- Worked examples, computed from the definitions.
 use Rattle.std.specs.Prelude.{ℕ, ◌≡◌, refl, true, false, List, [], ◌∷◌, map, drop, replicate, eqb}
-use Rattle.text.specs.declared.bytes.Found.TheVariants.{At, Nothing}
+use Rattle.std.specs.Prelude.{Option, Some, None}
 use Rattle.text.specs.declared.chars.Char.{Char}
 use Rattle.text.specs.declared.spans.Span.{Span}
 use Rattle.text.specs.declared.spans.Bounds.TheVariants.{Outside, Cuts, Empty, Good}
 use Rattle.text.specs.Bytes.{ascii, same, find_from, find, over_ascii}
 use Rattle.text.specs.Utf8.{within, width, after, ill_from, first_ill}
-use Rattle.text.specs.Chars.{char_of, is_white_space, is_line_terminator}
+use Rattle.text.specs.Chars.{front_code, char_of, is_white_space, is_line_terminator}
 use Rattle.text.specs.Spans.{part_of, cuts_at, bounds_of}
 
 -- ---- well-formed and ill-formed texts
@@ -25,7 +25,7 @@ pub ill_formed :
     ∷ (0x61 ∷ 0xe2 ∷ 0x82 ∷ [])
     ∷ (0xe2 ∷ 0x82 ∷ 0xac ∷ 0x80 ∷ [])
     ∷ [])
-    ≡ Nothing ∷ Nothing ∷ Nothing ∷ At 1 ∷ At 0 ∷ At 3 ∷ At 4 ∷ At 1 ∷ At 3 ∷ []
+    ≡ None ∷ None ∷ None ∷ Some 1 ∷ Some 0 ∷ Some 3 ∷ Some 4 ∷ Some 1 ∷ Some 3 ∷ []
 unfolding first_ill ill_from after width within
 ill_formed = refl
 
@@ -51,8 +51,8 @@ unfolding width within
 replaced = refl
 
 -- ---- characters
-abbrev char : ℕ → ℕ → Char
-char c w = record { code = c; width = w }
+abbrev char : ℕ → ℕ → Option Char
+char c w = Some (record { code = c; width = w })
 
 -- the dollar, cent and euro signs, U+10348 and U+10FFFF, then RFC 3629, section 7: 2262, 0391, D55C, 65E5, FEFF and 233B4; an
 -- ill-formed sequence and an empty text have no character
@@ -83,10 +83,10 @@ pub characters :
     ∷ char 0x65e5 3
     ∷ char 0xfeff 3
     ∷ char 0x233b4 4
-    ∷ char 0 0
-    ∷ char 0 0
+    ∷ None
+    ∷ None
     ∷ []
-unfolding char_of width within
+unfolding char_of front_code width within
 characters = refl
 
 -- ECMA-262, "White Space": TAB, VT, FF, ZWNBSP, and the code points of category Zs in the Unicode Character Database
@@ -140,11 +140,10 @@ parts = refl
 -- ---- words, and bytes looked for
 pub words :
     map (same (ascii "key")) (ascii "key" ∷ ascii "ref" ∷ ascii "keys" ∷ ascii "ke" ∷ [] ∷ []) ≡ true ∷ false ∷ false ∷ false ∷ false ∷ []
-unfolding same
 words = refl
 
 pub places :
-    (map (find (eqb 0x3a)) (ascii "svg:a:b" ∷ ascii "svg" ∷ [] ∷ []) ≡ At 3 ∷ Nothing ∷ Nothing ∷ [])
-    × (map (find over_ascii) (text ∷ ascii "svg" ∷ (0x7f ∷ 0x80 ∷ []) ∷ []) ≡ At 1 ∷ Nothing ∷ At 1 ∷ [])
+    (map (find (eqb 0x3a)) (ascii "svg:a:b" ∷ ascii "svg" ∷ [] ∷ []) ≡ Some 3 ∷ None ∷ None ∷ [])
+    × (map (find over_ascii) (text ∷ ascii "svg" ∷ (0x7f ∷ 0x80 ∷ []) ∷ []) ≡ Some 1 ∷ None ∷ Some 1 ∷ [])
 unfolding find_from
 places = (refl, refl)

@@ -1,7 +1,7 @@
 -- Well-formed UTF-8 and the code points that it stands for, from the Unicode Standard, section 3.9.
 use Rattle.std.specs.Prelude.{ℕ, zero, suc, ◌+◌, ◌*◌, ◌-◌, Bool, true, cond, ◌&&◌, List, [], ◌∷◌, length, get_or, leb, ltb}
-use Rattle.text.specs.declared.bytes.Found.{Found}
-use Rattle.text.specs.declared.bytes.Found.TheVariants.{At, Nothing}
+use Rattle.std.specs.Prelude.{Option}
+use Rattle.std.specs.Prelude.{Some, None}
 
 -- a row of Table 3-7: for each byte of a sequence the least and the greatest that it may be
 abbrev pub Row : Type 0
@@ -43,6 +43,11 @@ rest r l = cond (matches 1 r l) (suc (length r)) 0
 unfoldable pub width : List ℕ → ℕ
 width l = width_by table l
 
+-- a number of bytes, where there are some
+abbrev pub nonzero : ℕ → Option ℕ
+nonzero zero = None
+nonzero (suc n) = Some (suc n)
+
 -- Table 3-6, UTF-8 Bit Distribution: the code point of a well-formed sequence
 abbrev pub code_of : List ℕ → ℕ
 code_of [] = 0
@@ -52,16 +57,16 @@ code_of (a ∷ b ∷ c ∷ []) = (a - 0xe0) * 4096 + (b - 0x80) * 64 + (c - 0x80
 code_of (a ∷ b ∷ c ∷ d ∷ l) = (a - 0xf0) * 262144 + (b - 0x80) * 4096 + (c - 0x80) * 64 + (d - 0x80)
 
 -- at the start of a sequence of this width: ill-formed here, or on after it
-unfoldable pub after : ℕ → ℕ → (ℕ → Found) → Found
-after zero at go = At at
+unfoldable pub after : ℕ → ℕ → (ℕ → Option ℕ) → Option ℕ
+after zero at go = Some at
 after (suc n) at go = go n
 
 -- the first ill-formed sequence of what is left, which begins at `at`, with n bytes of a sequence still to pass
-unfoldable pub ill_from : ℕ → ℕ → List ℕ → Found
-ill_from n at [] = Nothing
+unfoldable pub ill_from : ℕ → ℕ → List ℕ → Option ℕ
+ill_from n at [] = None
 ill_from zero at (b ∷ l) = after (width (b ∷ l)) at (λ n. ill_from n (suc at) l)
 ill_from (suc n) at (b ∷ l) = ill_from n (suc at) l
 
 -- the start of the first ill-formed sequence
-unfoldable pub first_ill : List ℕ → Found
+unfoldable pub first_ill : List ℕ → Option ℕ
 first_ill l = ill_from 0 0 l

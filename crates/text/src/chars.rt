@@ -1,62 +1,48 @@
 // One character of a text, and ECMA-262's classes of characters.
-ghost use Rattle.std.specs.Prelude.{◌-◌, ◌<◌, ◌≡◌, get_or};
+ghost use Rattle.std.specs.Prelude.{◌-◌, ◌≡◌};
+ghost use Rattle.text.specs.Utf8.{code_of};
 ghost use Rattle.text.specs.Chars.{char_of, is_space_separator, is_white_space, is_line_terminator};
 
 use crate::utf8::width;
 
-// A code point and how many bytes it takes in the text; 0 and 0 where no well-formed sequence stands.
+// A code point and how many bytes it takes in the text.
 #[derive(Clone, Copy)]
 pub struct Char {
     pub code: u32,
     pub width: usize,
 }
 
-// By how much the byte at i is over `floor`: 0 past the end.
-fn over(s: &[u8], i: usize, floor: u8) -> u32
-    ensures { (result ≡ get_or s.now i 0 - floor) × (result < 256) }
+// By how much a byte is over `floor`.
+fn over(b: u8, floor: u8) -> u32
+    ensures { result ≡ b - floor }
 {
-    if i < s.len() {
-        let b = s[i];
-        if floor <= b {
-            return (b - floor) as u32;
-        }
-    }
-    0
+    u32::from(b.saturating_sub(floor))
 }
 
-// The character with which s begins.
-pub fn first_char(s: &[u8]) -> Char
+// The code point of a well-formed sequence.
+fn code_of(sequence: &[u8]) -> u32
+    ensures { result ≡ code_of sequence.now }
+{
+    match sequence {
+        [] => 0,
+        [a] => u32::from(*a),
+        [a, b] => over(*a, 0xc0) * 64 + over(*b, 0x80),
+        [a, b, c] => over(*a, 0xe0) * 4096 + over(*b, 0x80) * 64 + over(*c, 0x80),
+        [a, b, c, d, ..] => {
+            over(*a, 0xf0) * 262144 + over(*b, 0x80) * 4096 + over(*c, 0x80) * 64 + over(*d, 0x80)
+        }
+    }
+}
+
+// The character with which s begins, where a well-formed sequence stands there.
+pub fn first_char(s: &[u8]) -> Option<Char>
     ensures { result ≡ char_of s.now }
 {
-    let n = width(s);
-    if n == 0 {
-        return Char { code: 0, width: 0 };
-    }
-    if n == 1 {
-        return Char {
-            code: over(s, 0, 0),
-            width: 1,
-        };
-    }
-    if n == 2 {
-        return Char {
-            code: over(s, 0, 0xc0) * 64 + over(s, 1, 0x80),
-            width: 2,
-        };
-    }
-    if n == 3 {
-        return Char {
-            code: over(s, 0, 0xe0) * 4096 + over(s, 1, 0x80) * 64 + over(s, 2, 0x80),
-            width: 3,
-        };
-    }
-    Char {
-        code: over(s, 0, 0xf0) * 262144
-            + over(s, 1, 0x80) * 4096
-            + over(s, 2, 0x80) * 64
-            + over(s, 3, 0x80),
-        width: 4,
-    }
+    let width = width(s)?;
+    Some(Char {
+        code: code_of(&s[..width]),
+        width: width,
+    })
 }
 
 pub fn is_white_space(code: u32) -> bool

@@ -9,13 +9,13 @@ pub struct Span {
     pub len: u16,
 }
 
-// What is wrong with a span, the first of these that holds; `Empty` is wrong only for a name.
-#[derive(Clone, Copy)]
+// What is wrong with a span, the last of these that holds; `Empty` is wrong only for a name. Of two spans' bounds the greater is the worse.
+#[derive(Clone, Copy, PartialEq, Eq, PartialOrd, Ord)]
 pub enum Bounds {
-    Outside,
-    Cuts,
-    Empty,
     Good,
+    Empty,
+    Cuts,
+    Outside,
 }
 
 // The part of the text that the span names, as far as the text goes.
@@ -37,11 +37,7 @@ pub fn part<'a>(text: &'a [u8], span: Span) -> &'a [u8]
 fn cuts_at(text: &[u8], i: usize) -> bool
     ensures { result ≡ cuts_at text.now i }
 {
-    if i < text.len() {
-        let b = text[i];
-        return (0x80 <= b) & (b <= 0xbf);
-    }
-    false
+    matches!(text.get(i), Some(0x80..=0xbf))
 }
 
 pub fn span_bounds(text: &[u8], span: Span) -> Bounds

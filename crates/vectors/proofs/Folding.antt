@@ -1,6 +1,5 @@
 -- Numbers folded from bytes, and letters spelled from a number: a loop's steps. Assumes nothing.
 use mathlib.Core.Path.{◌≡◌, refl, ap}
-use mathlib.Core.Bool.{false}
 use mathlib.Core.List.{List, [], ◌∷◌}
 use Prim.Native.Nat.{ℕ, zero, suc, ◌+◌, ◌*◌, ◌-◌, ◌/◌, ◌%◌, ◌^◌, ◌≤◌, ◌<◌}
 use native.Mathlib.Nat.{mul-le-mul_left, not-suc-le-zero}
@@ -8,7 +7,7 @@ use native.Mathlib.Numerals.{sub-one}
 use native.Mathlib.Omega.{arith}
 use lib.ListN.{length, get_or, drop, set, drop_of_length-le}
 use borrow.Author.Tests.{ne_eqb}
-use Rattle.vectors.specs.Values.{digit_of, mark_of, folded, is_decimal, spelled}
+use Rattle.vectors.specs.Values.{mark_of, folded, spelled}
 use Rattle.text.proofs.Lists.{drop_one}
 
 pub fold_step : (base value : ℕ) (s : List ℕ) (i : ℕ) → i < length s
@@ -19,11 +18,6 @@ fold_step base value s i h = ap (folded base value) (drop_one s i h)
 pub fold_end : (base value : ℕ) (s : List ℕ) (i : ℕ) → length s ≤ i → folded base value (drop i s) ≡ value
 unfolding folded
 fold_end base value s i h = ap (folded base value) (drop_of_length-le s h)
-
-pub empty_word : (w : List ℕ) → length w ≡ 0 → is_decimal w ≡ false
-unfolding is_decimal digit_of
-empty_word [] e = refl
-empty_word (b ∷ w) e = absurd (omega arith)
 
 pub product_below : (value base : ℕ) → base ≤ 32 → value * base ≤ value * 32
 product_below value base h = mul-le-mul_left value h

@@ -1,6 +1,3 @@
-pub mod Places
-pub mod Walking
-pub mod Digits
-pub mod Pairs
+pub mod Words
 pub mod Folding
-pub mod Comparing
+pub mod Pairs

@@ -1,5 +1,5 @@
--- A few values in order: one more, the bytes of a list, and whether two answers are the same.
-use Rattle.std.specs.Prelude.{ℕ, ◌+◌, Bool, cond, ◌&&◌, List, [], ◌∷◌, take, set, replicate, eqb, leb, ltb}
+-- A few values in order: one more, those of a list, and whether two answers are the same.
+use Rattle.std.specs.Prelude.{ℕ, ◌+◌, Bool, cond, ◌&&◌, List, fold, take, set, replicate, eqb, leb, ltb}
 use Rattle.text.specs.Bytes.{same}
 use Rattle.vectors.specs.declared.answers.Answer.{Answer}
 
@@ -12,9 +12,8 @@ with_value a x =
     cond (ltb a.n 16) (record { n = a.n + 1; v = set a.v a.n x })
     (record { n = 17; v = a.v })
 
-unfoldable pub with_values : Answer → List ℕ → Answer
-with_values a [] = a
-with_values a (x ∷ l) = with_values (with_value a x) l
+abbrev pub with_values : Answer → List ℕ → Answer
+with_values = fold with_value
 
 -- as many values, all of which were kept, and the same ones
 unfoldable pub same_values : Answer → Answer → Bool

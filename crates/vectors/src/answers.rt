@@ -11,18 +11,20 @@ use crate::values::value_of;
 pub const MOST: usize = 16;
 
 // The first n of `v`. An n over 16 says that there were more values, and makes the answer differ from every other.
+// kept: no program here takes memory from a heap, so the values stand in a fixed buffer with their number beside it.
 #[derive(Clone, Copy)]
 pub struct Answer {
     pub n: usize,
-    pub v: [u64; 16],
+    pub v: [u64; MOST],
 }
 
 pub fn no_values() -> Answer
     ensures { result ≡ empty }
 {
-    Answer { n: 0, v: [0; 16] }
+    Answer { n: 0, v: [0; MOST] }
 }
 
+#[tactic(auto, unfolding(crate::specs::Answers::with_value))]
 pub fn with_value(a: Answer, x: u64) -> Answer
     ensures { result ≡ with_value a x }
 {
@@ -31,9 +33,9 @@ pub fn with_value(a: Answer, x: u64) -> Answer
     if n < MOST {
         b.v[n] = x;
         b.n = n + 1;
-        return b;
+    } else {
+        b.n = MOST + 1;
     }
-    b.n = MOST + 1;
     b
 }
 
@@ -41,13 +43,7 @@ pub fn with_value(a: Answer, x: u64) -> Answer
 pub fn with_bytes(a: Answer, s: &[u8]) -> Answer
     ensures { result ≡ with_values a s.now }
 {
-    let mut b = a;
-    let mut i = 0;
-    while i < s.len() {
-        b = with_value(b, s[i] as u64);
-        i += 1;
-    }
-    b
+    s.iter().fold(a, |b, x| with_value(b, u64::from(*x)))
 }
 
 // The answer that is one word.
@@ -62,35 +58,17 @@ pub fn values_of(s: &[u8]) -> Answer
     ensures { result ≡ with_values empty (map value_of (words s.now)) }
 {
     let mut a = no_values();
-    let mut at = 0;
-    loop {
-        let w = next_word(s, at);
-        let start = w.start;
-        let end = w.end;
-        if start == end {
-            return a;
-        }
-        a = with_value(a, value_of(&s[start..end]));
-        at = end;
+    let mut left = s;
+    while let Some((word, behind)) = next_word(left) {
+        a = with_value(a, value_of(word));
+        left = behind;
     }
+    a
 }
 
+#[tactic(auto, unfolding(crate::specs::Answers::same_values))]
 pub fn same_values(a: Answer, b: Answer) -> bool
     ensures { result ≡ same_values a b }
 {
-    let n = a.n;
-    if n != b.n {
-        return false;
-    }
-    if MOST < n {
-        return false;
-    }
-    let mut i = 0;
-    while i < n {
-        if a.v[i] != b.v[i] {
-            return false;
-        }
-        i += 1;
-    }
-    true
+    a.n == b.n && a.n <= MOST && a.v[..a.n] == b.v[..b.n]
 }

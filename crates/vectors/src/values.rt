@@ -11,30 +11,16 @@ pub const WORDS: u64 = 0x4000_0000_0000_0000;
 // Values are folded modulo this, which keeps eleven letters of a word.
 const RANGE: u64 = 0x0800_0000_0000_0000;
 
-// What a hexadecimal digit counts: 16 for any other byte.
-fn digit(b: u8) -> u8
-    ensures value { result ≡ digit_of b }
-    ensures upper_bound { result ≤ 16 }
+// What a hexadecimal digit counts.
+fn digit(b: u8) -> Option<u8>
+    ensures { result ≡ digit_of b }
 {
-    if b < b'0' {
-        return 16;
+    match b {
+        b'0'..=b'9' => Some(b - b'0'),
+        b'A'..=b'F' => Some(b - b'A' + 10),
+        b'a'..=b'f' => Some(b - b'a' + 10),
+        _ => None,
     }
-    if b <= b'9' {
-        return b - b'0';
-    }
-    if b < b'A' {
-        return 16;
-    }
-    if b <= b'F' {
-        return b - b'A' + 10;
-    }
-    if b < b'a' {
-        return 16;
-    }
-    if b <= b'f' {
-        return b - b'a' + 10;
-    }
-    16
 }
 
 // Puts the bytes that the pairs of digits at the front of s say into `out`, as far as it has room, and answers how many.
@@ -44,39 +30,35 @@ pub fn hex_bytes(s: &[u8], out: &mut [u8]) -> usize
     ensures out_after { take result out.new ≡ take (length out.old) (hex_bytes s.now) }
 {
     let mut n = 0;
-    let mut i = 0;
+    let mut left = s;
     while n < out.len() {
-        if s.len() - i < 2 {
-            return n;
-        }
-        if is_blank(s[i]) {
-            i += 1;
+        let [a, b, behind @ ..] = left else {
+            break;
+        };
+        if is_blank(*a) {
+            left = &left[1..];
             continue;
         }
-        let high = digit(s[i]);
-        let low = digit(s[i + 1]);
-        if high == 16 {
-            return n;
-        }
-        if low == 16 {
-            return n;
-        }
+        let (Some(high), Some(low)) = (digit(*a), digit(*b)) else {
+            break;
+        };
         out[n] = high * 16 + low;
         n += 1;
-        i += 2;
+        left = behind;
     }
     n
 }
 
-// What a byte counts in a number of this base, or, in base 32, in a word: the letters of both cases count 1 to 26.
+// What a byte counts in a number of this base, or, in base 32, in a word: the letters of both cases count 1 to 26. What is no digit counts 16.
+#[tactic(auto, unfolding(crate::specs::Values::mark_of))]
 fn mark(base: u64, b: u8) -> u64
     ensures value { result ≡ mark_of base b }
     ensures upper_bound { result < 32 }
 {
     if base == 32 {
-        return (b % 32) as u64;
+        return u64::from(b % 32);
     }
-    digit(b) as u64
+    u64::from(digit(b).unwrap_or(16))
 }
 
 // The number that the bytes make in this base.
@@ -86,37 +68,31 @@ fn fold(s: &[u8], base: u64) -> u64
     ensures upper_bound { result < 2 ^ 59 }
 {
     let mut value: u64 = 0;
-    let mut i = 0;
-    while i < s.len() {
-        value = (value * base + mark(base, s[i])) % RANGE;
-        i += 1;
+    for b in s {
+        value = (value * base + mark(base, *b)) % RANGE;
     }
     value
 }
 
 // `U+20AC` and `0xac` are numbers in hexadecimal.
+#[tactic(auto, unfolding(crate::specs::Values::is_hexadecimal))]
 fn is_hexadecimal(word: &[u8]) -> bool
     ensures value { result ≡ is_hexadecimal word.now }
     ensures in_bounds { result ≡ true → 2 ≤ length word.now }
 {
-    if word.len() < 3 {
-        return false;
-    }
-    let front = &word[0..2];
-    same(front, b"U+") | same(front, b"0x")
+    word.len() >= 3 && (same(&word[..2], b"U+") || same(&word[..2], b"0x"))
 }
 
 // A number in decimal begins with a digit.
+#[tactic(auto, unfolding(crate::specs::Values::is_decimal))]
 fn is_decimal(word: &[u8]) -> bool
     ensures { result ≡ is_decimal word.now }
 {
-    if word.len() == 0 {
-        return false;
-    }
-    digit(word[0]) < 10
+    matches!(word, [b'0'..=b'9', ..])
 }
 
 // The number that a word says, or, for any other word, one that stands for its letters.
+#[tactic(auto, unfolding(crate::specs::Values::value_of))]
 pub fn value_of(word: &[u8]) -> u64
     ensures { result ≡ value_of word.now }
 {
@@ -136,6 +112,7 @@ pub fn letters_of(value: u64, out: &mut [u8]) -> usize
 {
     let mut left = value % RANGE;
     let mut i = out.len();
+    // kept: letters come off a value last first, and the walk ends where the value does; a range counted down would need a `break` there.
     while 0 < i {
         if left == 0 {
             return i;

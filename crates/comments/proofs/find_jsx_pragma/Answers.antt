@@ -1,55 +1,53 @@
-use mathlib.Core.Path.{◌≡◌, sym, ap, ◌∙◌}
-use Prim.Native.Nat.{◌<◌}
-use native.Mathlib.Omega.{arith}
-use lib.ListN.{length, drop, length-drop}
-use Rattle.text.specs.declared.bytes.Found.TheVariants.{At}
-use Rattle.definitions.specs.Comments.{pragma, seek, place_from, value_of}
+use Rattle.std.specs.Prelude.{Some}
+use Rattle.std.proofs.Common.{◌≡◌, ◌<◌, length, drop, not, rules, arith, sym, ap, ◌∙◌}
+use Rattle.definitions.specs.Comments.{is_blank, pragma, seek, place_from, value_of}
 use Rattle.text.proofs.Lists.{told, tail_part}
-use Rattle.comments.specs.declared.Class.TheVariants.{Ink}
-use Rattle.comments.specs.Searches.{is_in, known_for, search_for, pragma_by, pragma_of}
+use Rattle.comments.specs.Searches.{known_for, search_for, pragma_for, pragma_of}
 use Rattle.comments.proofs.Signs.{place_range}
-use Rattle.comments.proofs.Values.{value_length, blank_rest, valued}
+use Rattle.comments.proofs.Values.{blank_rest, valued, by_none, by_some}
 use Rattle.comments.proofs.find_jsx_pragma.Goals as goal
-use Rattle.comments.proofs.find_jsx_pragma.Goals.{In-Pragma, In-At, After-value_of-value}
+use Rattle.comments.proofs.find_jsx_pragma.Goals.{In_ok-kind, In_ok-start, After-value_of-value}
 
 -- a keyword was found
-hit : (c : In-Pragma)
-    → seek (length c.args.comment.now) c.args.comment.now c.args.at.now ≡ pragma (known_for c.in-Pragma.found) c.in-Pragma.from
+hit : (c : In_ok-kind) → seek (length c.args.comment.now) c.args.comment.now c.args.at ≡ pragma (known_for c.in_ok-kind.kind) c.in_ok-kind.from
 unfolding search_for
-hit c = told c.find_keyword.ensures (ap search_for c.in-Pragma.is)
+hit c = told c.find_keyword.ensures (ap search_for c.in_ok-kind.was)
 
 -- its value begins behind it
-starts : (c : In-At) → place_from (is_in Ink) c.args.comment.now c.in-Pragma.from ≡ At c.in-At.start
-starts c = told c.place_from.ensures c.in-At.is
+starts : (c : In_ok-start) → place_from (λ b. not (is_blank b)) c.args.comment.now c.in_ok-kind.from ≡ Some c.in_ok-start.start
+starts c = told (c.place_from.ensures (λ b. not (is_blank b)) (λ b r h. search rules)) c.in_ok-start.was
 
-inside : (c : In-At) → c.in-At.start < length c.args.comment.now
-inside c = (place_range (is_in Ink) _ _ _ (starts c)).1
+inside : (c : In_ok-start) → c.in_ok-start.start < length c.args.comment.now
+inside c = (place_range (λ b. not (is_blank b)) _ _ _ (starts c)).1
 
-value : (c : After-value_of-value) → c.value_of-value.result.now ≡ value_of (drop c.in-At.start c.args.comment.now)
-value c = c.value_of-value.ensures ∙ ap value_of (tail_part c.args.comment.now c.in-At.start)
+value : (c : After-value_of-value) → c.value_of-value.result.now ≡ value_of (drop c.in_ok-start.start c.args.comment.now)
+value c = c.value_of-value.ensures ∙ ap value_of (tail_part c.args.comment.now c.in_ok-start.start)
 
-pub returns-in_default : goal.returns-in_default
-unfolding pragma_of pragma_by search_for
-returns-in_default c = rw (told c.find_keyword.ensures (ap search_for c.in_default.is))
+pub returns-in_err-kind : goal.returns-in_err-kind
+unfolding pragma_of pragma_for search_for
+returns-in_err-kind c = rw (c.from_residual.ensures, told c.find_keyword.ensures (ap search_for c.in_err-kind.was))
 
-pub returns-in_default-place_from : goal.returns-in_default-place_from
-unfolding pragma_by
-returns-in_default-place_from c = sym (blank_rest _ _ _ _ (hit (goal.at.returns-in_default-place_from c).In-Pragma) (told c.place_from.ensures c.in_default-place_from.is))
+pub returns-in_err-start : goal.returns-in_err-start
+unfolding pragma_for
+returns-in_err-start c =
+    rw c.from_residual-in_err-start.ensures
+    (sym (blank_rest _ _ _ _ (hit (goal.at.returns-in_err-start c).In_ok-kind) (told (c.place_from.ensures (λ b. not (is_blank b)) (λ b r h. search rules)) c.in_err-start.was)))
 
 pub slice_bounds-value_of-count : goal.slice_bounds-value_of-count
-slice_bounds-value_of-count c = omega (arith, inside (goal.at.slice_bounds-value_of-count c).In-At)
+slice_bounds-value_of-count c = omega (arith, inside (goal.at.slice_bounds-value_of-count c).In_ok-start)
 
 pub slice_bounds-value_of-start : goal.slice_bounds-value_of-start
-slice_bounds-value_of-start c = omega (arith, inside (goal.at.slice_bounds-value_of-start c).In-At)
+slice_bounds-value_of-start c = omega (arith, inside (goal.at.slice_bounds-value_of-start c).In_ok-start)
 
--- by paths
-pub overflow_add-at : goal.overflow_add-at
-overflow_add-at c =
-    let at = goal.at.overflow_add-at c in
-    let rest = drop c.in-At.start c.args.comment.now in
-    omega (arith, inside at.In-At, ap length (value at.After-value_of-value), value_length rest, length-drop c.in-At.start c.args.comment.now)
+pub returns-then-value-eq0 : goal.returns-then-value-eq0
+unfolding pragma_for
+returns-then-value-eq0 c =
+    let at = goal.at.returns-then-value-eq0 c in
+    sym (valued _ _ _ _ (hit at.In_ok-kind) _ (starts at.In_ok-start) ∙ by_none _ _ _ (ap length (sym (value at.After-value_of-value)) ∙ c.if-value-eq0.true))
 
 pub returns : goal.returns
+unfolding pragma_for
 returns c =
     let at = goal.at.returns c in
-    rw (c.number_of.ensures, value at.After-value_of-value) (sym (valued _ _ _ _ (hit at.In-Pragma) _ (starts at.In-At)))
+    rw (value at.After-value_of-value)
+    (sym (valued _ _ _ _ (hit at.In_ok-kind) _ (starts at.In_ok-start) ∙ by_some _ _ _ (λ z. c.if-value-eq0.false (ap length (value at.After-value_of-value) ∙ z))))

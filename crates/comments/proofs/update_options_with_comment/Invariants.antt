@@ -1,10 +1,9 @@
-use Prim.Native.Nat.{◌≤◌, ◌-◌}
-use lib.ListN.{length}
+use Rattle.std.proofs.Common.{◌+◌, ◌-◌, length}
 use Rattle.comments.proofs.Values.{Comes}
 use Rattle.comments.proofs.update_options_with_comment.Given as goal
 
-abbrev pub invariant-loop-content : goal.invariant-loop-content
-invariant-loop-content l = (l.at ≤ length l.content) × Comes l.content l.base l.initial.held l.held l.at
+abbrev pub invariant-loop-pragma : goal.invariant-loop-pragma
+invariant-loop-pragma l = Comes l.content l.fn.comment.start l.fn.options l.held l.at
 
-abbrev pub decreases-loop-content : goal.decreases-loop-content
-decreases-loop-content l = length l.content - l.at
+abbrev pub decreases-loop-pragma : goal.decreases-loop-pragma
+decreases-loop-pragma l = length l.content + 1 - l.at

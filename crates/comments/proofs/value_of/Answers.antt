@@ -1,26 +1,15 @@
-use mathlib.Core.Path.{sym}
-use native.Mathlib.Nat.{sub-zero}
-use native.Mathlib.Omega.{arith}
-use lib.Seq.{take-length}
-use Rattle.definitions.specs.Comments.{or_else}
-use Rattle.text.proofs.Lists.{told}
-use Rattle.comments.specs.declared.Class.TheVariants.{White}
-use Rattle.comments.specs.Searches.{is_in}
-use Rattle.comments.proofs.Signs.{place_range}
+use Rattle.std.proofs.Common.{◌≡◌, length, length-take-le, sym, ap, ◌∙◌}
+use Rattle.std.specs.Option.{unwrap_or}
+use Rattle.definitions.specs.Comments.{is_white, place_from}
+use Rattle.comments.proofs.Values.{value_taken, value_within}
 use Rattle.comments.proofs.value_of.Goals as goal
+use Rattle.comments.proofs.value_of.Goals.{After-unwrap_or-end}
 
-pub returns-in_default : goal.returns-in_default
-unfolding or_else
-returns-in_default c = rw (told c.place_from.ensures c.in_default.is) (sym (take-length _))
+end_is : (c : After-unwrap_or-end) → c.unwrap_or-end.result ≡ unwrap_or (place_from is_white c.args.rest.now 0) (length c.args.rest.now)
+end_is c = c.unwrap_or-end.ensures ∙ ap (λ o. unwrap_or o (length c.args.rest.now)) (c.place_from.ensures is_white (λ b r h. h))
 
 pub slice_bounds-result-end : goal.slice_bounds-result-end
-slice_bounds-result-end c =
-    omega (
-      arith,
-      place_range (is_in White) c.args.rest.now 0 c.in-At.n
-          (told c.place_from.ensures c.in-At.is),
-    )
+slice_bounds-result-end c = let within = value_within c.args.rest.now in rw (end_is c) (sym (length-take-le _ _ within))
 
 pub returns : goal.returns
-unfolding or_else
-returns c = rw (told c.place_from.ensures c.in-At.is, sub-zero)
+returns c = rw (end_is c) (value_taken c.args.rest.now)

@@ -1,12 +1,10 @@
-use Rattle.std.proofs.Common.{arith}
-use Rattle.files.proofs.Lines.{none_left, one_digit, more_digits}
+use native.Mathlib.Omega.{arith}
+use Rattle.std.proofs.lemmas.Fmt.{decimal_digit}
+use Rattle.files.proofs.Lines.{more_digits}
 use Rattle.files.proofs.+put_decimal.Goals as goal
 
-pub returns-then-digits-eq0 : goal.returns-then-digits-eq0
-returns-then-digits-eq0 t c = none_left _ _ c.if-digits-eq0.true (omega arith)
-
 pub returns-then-n-lt10 : goal.returns-then-n-lt10
-returns-then-n-lt10 t c = one_digit _ _ (omega arith) c.if-n-lt10.true c.put.ensures
+returns-then-n-lt10 t c = rw (decimal_digit c.args.n c.if-n-lt10.true) c.encode.ensures
 
 pub returns : goal.returns
-returns t c = more_digits _ _ (omega arith) c.if-n-lt10.false (omega arith) c.put_decimal-next.ensures c.put-2.ensures
+returns t c = more_digits c.args.n c.if-n-lt10.false (omega arith) (omega arith) c.put_decimal-next.ensures c.encode-2.ensures

@@ -1,4 +1,4 @@
 use Rattle.files.proofs.+put_decimal.Given as goal
 
 abbrev pub decreases-put_decimal : goal.decreases-put_decimal
-decreases-put_decimal l = l.digits
+decreases-put_decimal l = l.n

@@ -1,6 +1,7 @@
 -- `jsx_text::add_line_of_jsx_text` meets its contract. Assumes nothing.
 use native.Mathlib.Omega.{arith}
 use mathlib.Core.Path.{refl}
+use Rattle.definitions.specs.Calls.{span_code}
 use Rattle.jsx_text.proofs.Writing.{wrote_empty_line, wrote_line}
 use Rattle.jsx_text.proofs.add_line_of_jsx_text.Goals as goal
 
@@ -11,8 +12,9 @@ returns-then-line-eq0 c = record {
 }
 
 pub returns : goal.returns
+unfolding span_code
 returns c = record {
   wrote = wrote_line c.args.before.survives c.args.line _ c.lead.ensures _ _ _ _ c.put-next.ensures
-      c.if-line-eq0.false (omega arith) _ _ _ _ c.put-next-2.ensures c.put_span.ensures;
+      c.if-line-eq0.false (omega arith) _ _ _ _ (rw c.code.ensures at c.put-next-2.ensures) c.put_span.ensures;
   survives = refl;
 }

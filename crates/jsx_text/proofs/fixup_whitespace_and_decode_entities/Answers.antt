@@ -1,13 +1,13 @@
 -- `jsx_text::fixup_whitespace_and_decode_entities` meets its contract. The loop's invariant is a `Turn`: how the present line stands, and
 -- what is still to be written. Assumes nothing.
-use Prim.Native.Nat.{ℕ, ◌≤◌, ◌<◌, ◌+◌}
+use Rattle.std.specs.Prelude.{None}
+use Rattle.std.proofs.Common.{rules}
+use Prim.Native.Nat.{ℕ, min, ◌≤◌, ◌<◌, ◌+◌}
 use native.Mathlib.Omega.{arith}
-use mathlib.Core.Path.{◌≡◌, refl, ap, ◌∙◌}
+use mathlib.Core.Path.{◌≡◌, refl, ap}
 use lib.ListN.{length}
-use Rattle.text.specs.declared.bytes.Found.TheVariants.{Nothing}
 use Rattle.text.specs.Utf8.{first_ill}
 use Rattle.text.specs.Spans.{part_of}
-use Rattle.tape.proofs.Targets.{wrote_length, wrote_small}
 use Rattle.jsx_text.specs.declared.Mark.{Mark}
 use Rattle.jsx_text.proofs.Characters.{size_of}
 use Rattle.jsx_text.proofs.Turns.{turn_start, turn_ink, turn_white, turn_moves, turn_blank, turn_line, last_inside, end_whole}
@@ -20,7 +20,7 @@ loop-i-init c =
     rw c.part-chars.ensures (turn_start c.args.text.now c.args.span c.args.calls.now c.args.at c.requires.at_bound)
 
 -- the text's part is well-formed, and where it is not empty its places fit a span
-chars_good : (c : At-loop-i) → first_ill c.part-chars.result.now ≡ Nothing
+chars_good : (c : At-loop-i) → first_ill c.part-chars.result.now ≡ None
 chars_good c =
     rw c.part-chars.ensures c.requires.well_formed
 
@@ -34,7 +34,7 @@ chars_short c h =
 moves : (c : After-mark_at) (k : Mark) (w : ℕ) → c.mark_at.result ≡ k → size_of k ≡ w
     → (0 < w) × (c.loop-i.i + w ≤ length c.part-chars.result.now)
 moves c k w e f =
-    turn_moves _ _ _ _ _ _ _ _ _ _ c.loop-i.invariant ((let it : first_ill c.part-chars.result.now ≡ Nothing = rw c.part-chars.ensures c.requires.well_formed in it)) c.loop-i-test.true _ c.mark_at.ensures w k e f
+    turn_moves _ _ _ _ _ _ _ _ _ _ c.loop-i.invariant ((let it : first_ill c.part-chars.result.now ≡ None = rw c.part-chars.ensures c.requires.well_formed in it)) c.loop-i-test.true _ c.mark_at.ensures w k e f
 
 pub overflow_add-i : goal.overflow_add-i
 unfolding size_of
@@ -46,7 +46,8 @@ loop-i-smaller-in-Ink c = omega (arith, moves (goal.at.loop-i-smaller-in-Ink c).
 
 pub loop-i-preserved-in-Ink : goal.loop-i-preserved-in-Ink
 loop-i-preserved-in-Ink c =
-    rw c.earlier-first_non_whitespace.ensures
+    let m : c.min-first_non_whitespace.result ≡ min c.loop-i.first_non_whitespace c.loop-i.i = search rules in
+    rw m
     (turn_ink _ _ _ _ _ _ _ _ _ _ c.loop-i.invariant (chars_good (goal.at.loop-i-preserved-in-Ink c).At-loop-i) c.loop-i-test.true _ c.mark_at.ensures _
     c.in-Ink.is)
 
@@ -94,13 +95,6 @@ loop-i-preserved c =
     turn_blank _ _ _ _ _ _ _ _ _ _ c.loop-i.invariant (chars_good (goal.at.loop-i-preserved c).At-loop-i) c.loop-i-test.true _ c.mark_at.ensures _
     c.in-Terminator.is c.if-first_non_whitespace-last_non_whitespace.false
 
-pub end_of_jsx_text-requires : goal.end_of_jsx_text-requires
-end_of_jsx_text-requires c = wrote_small c.add_line_of_jsx_text-whole.ensures.wrote
-
-pub shape_of-calls-then-first_non_whitespace-eq0 : goal.shape_of-calls-then-first_non_whitespace-eq0
-shape_of-calls-then-first_non_whitespace-eq0 c =
-    wrote_length c.end_of_jsx_text.ensures.wrote ∙ wrote_length c.add_line_of_jsx_text-whole.ensures.wrote ∙ c.loop-i.invariant.left.long
-
 pub returns-then-first_non_whitespace-eq0 : goal.returns-then-first_non_whitespace-eq0
 returns-then-first_non_whitespace-eq0 c =
     let it = left_end _ _ _ _ _
@@ -116,13 +110,6 @@ returns-then-first_non_whitespace-eq0 c =
 pub span_between-line-requires-then-first_non_whitespace-chars : goal.span_between-line-requires-then-first_non_whitespace-chars
 span_between-line-requires-then-first_non_whitespace-chars c = (omega arith, omega (arith, chars_short (goal.at.span_between-line-requires-then-first_non_whitespace-chars c).At-loop-i (omega arith)))
 
-pub end_of_jsx_text-requires-then-first_non_whitespace-chars : goal.end_of_jsx_text-requires-then-first_non_whitespace-chars
-end_of_jsx_text-requires-then-first_non_whitespace-chars c = wrote_small c.add_line_of_jsx_text-last.ensures.wrote
-
-pub shape_of-calls-then-first_non_whitespace-chars : goal.shape_of-calls-then-first_non_whitespace-chars
-shape_of-calls-then-first_non_whitespace-chars c =
-    wrote_length c.end_of_jsx_text-then-first_non_whitespace-chars.ensures.wrote ∙ wrote_length c.add_line_of_jsx_text-last.ensures.wrote ∙ c.loop-i.invariant.left.long
-
 pub returns-then-first_non_whitespace-chars : goal.returns-then-first_non_whitespace-chars
 returns-then-first_non_whitespace-chars c =
     let it = left_end _ _ _ _ _
@@ -137,13 +124,6 @@ returns-then-first_non_whitespace-chars c =
     c.add_line_of_jsx_text-last.ensures.survives) _ _ c.end_of_jsx_text-then-first_non_whitespace-chars.ensures.wrote
     c.end_of_jsx_text-then-first_non_whitespace-chars.ensures.survives in
     record { wrote = it.0; survives = it.1 }
-
-pub end_of_jsx_text-requires-2 : goal.end_of_jsx_text-requires-2
-end_of_jsx_text-requires-2 c = c.loop-i.invariant.left.small
-
-pub shape_of-calls : goal.shape_of-calls
-shape_of-calls c =
-    wrote_length c.end_of_jsx_text-2.ensures.wrote ∙ c.loop-i.invariant.left.long
 
 pub returns : goal.returns
 returns c =

@@ -7,13 +7,13 @@ use Rattle.jsx_text_test.proofs.show.Goals as goal
 pub fixup_whitespace_and_decode_entities-counted-requires : goal.fixup_whitespace_and_decode_entities-counted-requires
 fixup_whitespace_and_decode_entities-counted-requires g c = record {
   text_len_bound = c.requires;
-  well_formed = ap first_ill (sym c.part.ensures) ∙ sym c.first_ill_formed.ensures ∙ c.in-Nothing.is;
+  well_formed = ap first_ill (sym c.part.ensures) ∙ sym c.first_ill_formed.ensures ∙ c.in-None.is;
   at_bound = omega arith;
 }
 
 pub fixup_whitespace_and_decode_entities-texted-requires : goal.fixup_whitespace_and_decode_entities-texted-requires
 fixup_whitespace_and_decode_entities-texted-requires g c = record {
   text_len_bound = c.requires;
-  well_formed = ap first_ill (sym c.part.ensures) ∙ sym c.first_ill_formed.ensures ∙ c.in-Nothing.is;
+  well_formed = ap first_ill (sym c.part.ensures) ∙ sym c.first_ill_formed.ensures ∙ c.in-None.is;
   at_bound = omega arith;
 }

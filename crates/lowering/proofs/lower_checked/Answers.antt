@@ -1,5 +1,8 @@
 -- `lowering::lower_checked` meets its contract: where there is room for all that the tape can give, the root is accepted uncounted. Assumes nothing.
+use mathlib.Core.Path.{refl}
+use Rattle.std.proofs.lemmas.Result.{err_from_is_err_and}
 use Rattle.text.proofs.Lists.{told}
+use Rattle.lowering.specs.Steps.{stepped}
 use Rattle.lowering.proofs.Judging.{not_fitting}
 use Rattle.lowering.proofs.Running.{surely_fits}
 use Rattle.lowering.proofs.lower_checked.Goals as goal
@@ -25,16 +28,12 @@ pub fit-requires : goal.fit-requires
 fit-requires c =
     c.requires
 
-pub write-requires-in-Accepted : goal.write-requires-in-Accepted
-write-requires-in-Accepted c = record {
-  ready = c.requires;
-  notices_value = told c.fit.ensures c.in-Accepted.is;
-}
-
-pub returns-in-Refused : goal.returns-in-Refused
-returns-in-Refused c =
+pub returns-in_err-fit : goal.returns-in_err-fit
+unfolding stepped
+returns-in_err-fit c =
     let a = c.args in
-    not_fitting a.text.now a.state a.tape.now a.calls.now a.notices.now (told c.fit.ensures c.in-Refused.is) c.refused.ensures
+    let p = err_from_is_err_and c.from_residual.result c.from_residual.ensures.1 in
+    rw (p.1, p.2) (not_fitting a.text.now a.state a.tape.now a.calls.now a.notices.now (told c.fit.ensures c.in_err-fit.was) refl)
 
-pub returns-in-Accepted : goal.returns-in-Accepted
-returns-in-Accepted c = c.write-in-Accepted.ensures
+pub returns : goal.returns
+returns c = c.write-2.ensures

@@ -1,16 +1,17 @@
+use mathlib.Core.Path.{refl}
 use Rattle.text.proofs.Lists.{told}
+use Rattle.lowering.specs.Steps.{stepped}
 use Rattle.lowering.proofs.Judging.{bad_tape}
 use Rattle.lowering.proofs.lower_tape.Goals as goal
 
 pub lower_checked-requires : goal.lower_checked-requires
-lower_checked-requires c =
-    record { unforged = c.requires; reads = told c.check_root.ensures c.in-Good.is }
+lower_checked-requires c = record { unforged = c.requires; reads = told c.check_root.ensures c.in-Ok.is }
 
-pub returns-in-Bad : goal.returns-in-Bad
-returns-in-Bad c =
+pub returns-in-Ok : goal.returns-in-Ok
+returns-in-Ok c = c.lower_checked.ensures
+
+pub returns-in-Err : goal.returns-in-Err
+unfolding stepped
+returns-in-Err c =
     let a = c.args in
-    bad_tape a.text.now a.state a.tape.now a.calls.now a.notices.now _ _
-    (told c.check_root.ensures c.in-Bad.is) c.refused.ensures
-
-pub returns-in-Good : goal.returns-in-Good
-returns-in-Good c = c.lower_checked.ensures
+    bad_tape a.text.now a.state a.tape.now a.calls.now a.notices.now _ (told c.check_root.ensures c.in-Err.is) refl

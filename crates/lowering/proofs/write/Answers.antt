@@ -1,4 +1,5 @@
 use native.Mathlib.Omega.{arith}
+use Rattle.lowering.specs.Steps.{stepped}
 use Rattle.lowering.proofs.Judging.{few_records}
 use Rattle.lowering.proofs.Running.{written}
 use Rattle.lowering.proofs.write.Goals as goal
@@ -14,5 +15,6 @@ lower-pen-requires c = record {
 }
 
 pub returns : goal.returns
+unfolding stepped
 returns c =
     written c.requires.ready c.requires.notices_value (omega arith) (omega arith) (omega arith) c.pen_over.ensures c.lower-pen.ensures

@@ -1,20 +1,18 @@
 -- `references::has_reference` meets its contract. Assumes nothing.
-use mathlib.Core.Path.{sym, ◌∙◌}
-use native.Mathlib.Omega.{arith}
-use lib.Dec.{eqb}
+use Rattle.std.proofs.Common.{sym, ◌∙◌, arith}
 use Rattle.text.proofs.Lists.{told}
-use Rattle.text.proofs.Searching.{find_found}
-use Rattle.references.proofs.Bare.{sign_found, sign_none}
+use Rattle.references.proofs.Bare.{sign_none}
+use Rattle.references.proofs.Search.{sign_inside, sign_passed}
 use Rattle.references.proofs.has_reference.Goals as goal
 
 pub returns-in_default : goal.returns-in_default
 returns-in_default c = sym (sign_none _ (told c.find_byte.ensures c.in_default.is))
 
-pub has_reference_from-requires : goal.has_reference_from-requires
-has_reference_from-requires c =
-    let s = c.args.s.now in
-    omega (arith, (find_found (eqb 0x26) s c.in-At.sign (told c.find_byte.ensures c.in-At.is)).inside)
+pub slice_bounds-has_reference_within-count : goal.slice_bounds-has_reference_within-count
+slice_bounds-has_reference_within-count c = omega (arith, sign_inside _ _ (told c.find_byte.ensures c.in-Some.is))
+
+pub slice_bounds-has_reference_within-start : goal.slice_bounds-has_reference_within-start
+slice_bounds-has_reference_within-start c = omega (arith, sign_inside _ _ (told c.find_byte.ensures c.in-Some.is))
 
 pub returns : goal.returns
-returns c =
-    c.has_reference_from.ensures ∙ sym (sign_found _ _ (told c.find_byte.ensures c.in-At.is))
+returns c = c.has_reference_within.ensures ∙ sym (sign_passed _ _ (told c.find_byte.ensures c.in-Some.is))

@@ -1,12 +1,12 @@
 use Rattle.definitions.specs.Opening.{import_source}
 use Rattle.resolved.proofs.put_import_source.Goals as goal
 
-pub returns-in-Absent : goal.returns-in-Absent
+pub returns-in-None : goal.returns-in-None
 unfolding import_source
-returns-in-Absent c =
-    rw c.in-Absent.is c.put_slice.ensures
+returns-in-None c =
+    rw c.in-None.is c.put_slice.ensures
 
-pub returns-in-Present : goal.returns-in-Present
+pub returns-in-Some : goal.returns-in-Some
 unfolding import_source
-returns-in-Present c =
-    rw (c.in-Present.is, ← c.part.ensures) c.put_or_react.ensures
+returns-in-Some c =
+    rw (c.in-Some.is, ← c.part.ensures) c.put_or_react.ensures

@@ -1,3 +1,4 @@
+use Rattle.std.proofs.lemmas.Result.{err_from_is_err_and}
 use Rattle.resolved.specs.Resolved.{judge_source}
 use Rattle.store.proofs.Writing.{state_short, state_refused, state_accepted}
 use Rattle.resolved.proofs.write_source.Goals as goal
@@ -5,16 +6,17 @@ use Rattle.resolved.proofs.write_source.Goals as goal
 pub write_fitting-requires : goal.write_fitting-requires
 write_fitting-requires c =
     let a = c.args in
-    state_short a.text.now a.state c.judge_state.ensures c.in-Accepted.is
+    state_short a.text.now a.state c.judge_state.ensures c.in_ok-judge_state.was
 
-pub returns-in-Refused : goal.returns-in-Refused
+pub returns-in_err-judge_state : goal.returns-in_err-judge_state
 unfolding judge_source
-returns-in-Refused c =
-    let it = state_refused _ _ c.judge_state.ensures _ _ _ c.in-Refused.is in
-    record { value = it.0; target_after = it.1 }
+returns-in_err-judge_state c =
+    let it = state_refused _ _ c.judge_state.ensures _ _ _ c.in_err-judge_state.was in
+    let p = err_from_is_err_and c.from_residual.result c.from_residual.ensures.1 in
+    record { value = rw (p.1, p.2) it.0; target_after = it.1 }
 
-pub returns-in-Accepted : goal.returns-in-Accepted
+pub returns : goal.returns
 unfolding judge_source
-returns-in-Accepted c =
-    let it = state_accepted _ _ c.judge_state.ensures _ _ c.in-Accepted.is (c.write_fitting.ensures.value, c.write_fitting.ensures.target_after) in
+returns c =
+    let it = state_accepted _ _ c.judge_state.ensures _ _ c.in_ok-judge_state.was (c.write_fitting.ensures.value, c.write_fitting.ensures.target_after) in
     record { value = it.0; target_after = it.1 }

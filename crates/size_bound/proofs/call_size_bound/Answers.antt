@@ -2,7 +2,6 @@
 use mathlib.Core.Path.{◌≡◌, sym}
 use Prim.Native.Nat.{◌+◌, ◌*◌}
 use native.Mathlib.Omega.{arith}
-use native.Mathlib.Nat.{zero-add}
 use lib.ListN.{length}
 use Rattle.size_bound.specs.SizeBound.{size_bound, call_size_bound}
 use Rattle.size_bound.proofs.Passing.{texts_step, texts_end, passed_most}
@@ -15,14 +14,8 @@ returns-then-tape-gt-MAX_LENGTH c = record {
   holds_calls = λ text s js o u h e. omega arith;
 }
 
-pub loop-at-init : goal.loop-at-init
-loop-at-init c = (zero-add _, omega arith, omega arith)
-
 pub overflow_add-at : goal.overflow_add-at
 overflow_add-at c = omega (arith, passed_most _ _ c.bytes_passed-at.ensures)
-
-pub loop-at-smaller : goal.loop-at-smaller
-loop-at-smaller c = omega arith
 
 pub loop-at-preserved : goal.loop-at-preserved
 loop-at-preserved c =
@@ -33,12 +26,6 @@ loop-at-preserved c =
       omega (arith, c.bytes_passed-at.ensures),
       omega (arith, passed_most _ _ c.bytes_passed-at.ensures),
     )
-
-pub overflow_mul-result-2 : goal.overflow_mul-result-2
-overflow_mul-result-2 c = omega arith
-
-pub overflow_add-result : goal.overflow_add-result
-overflow_add-result c = omega arith
 
 pub returns : goal.returns
 unfolding size_bound

@@ -1,17 +1,16 @@
-use Rattle.text.proofs.Lists.{told}
 use mathlib.Core.Path.{refl}
 use Rattle.definitions.specs.Lowering.{automatic_name}
 use borrow.Author.Tests.{le-leb, lt-leb}
 use Rattle.emit.proofs.jsx_impl.automatic_name.Goals as goal
 
-pub returns-then-is_development : goal.returns-then-is_development
+pub returns-then-context : goal.returns-then-context
 unfolding automatic_name
-returns-then-is_development c = λ k e. rw (e, told c.is_development.ensures c.if-is_development.true) refl
+returns-then-context c = rw c.if-context.true refl
 
-pub returns-then-count-ge2 : goal.returns-then-count-ge2
+pub returns-then-count-lt2 : goal.returns-then-count-lt2
 unfolding automatic_name
-returns-then-count-ge2 c = λ k e. rw (e, told c.is_development.ensures c.if-is_development.false, le-leb _ _ c.if-count-ge2.true) refl
+returns-then-count-lt2 c = rw (c.if-context.false, lt-leb _ _ c.if-count-lt2.true) refl
 
-pub returns-else-count-ge2 : goal.returns-else-count-ge2
+pub returns : goal.returns
 unfolding automatic_name
-returns-else-count-ge2 c = λ k e. rw (e, told c.is_development.ensures c.if-is_development.false, lt-leb _ _ c.if-count-ge2.false) refl
+returns c = rw (c.if-context.false, le-leb _ _ c.if-count-lt2.false) refl

@@ -1,63 +1,65 @@
-use Prim.Native.Nat.{◌+◌, ◌≤◌, ◌^◌}
-use lib.ListN.{drop, length}
-use native.Mathlib.Omega.{arith}
-use mathlib.Core.Path.{◌≡◌, refl}
+use Rattle.std.proofs.Common.{◌≡◌, Ok, length, refl, ap, arith}
+use lib.ListN.{length-drop}
+use Rattle.commands.specs.declared.root.PropertyCommand.TheVariants as command
 use Rattle.commands.specs.Root.{property_command}
+use Rattle.commands.proofs.Lengths.{property_fits}
+use Rattle.text.proofs.Lists.{told, tail_part}
 use Rattle.definitions.specs.Calls as call
 use Rattle.definitions.specs.Calls.{expression_code}
-use Rattle.emit.proofs.Readings.{seen}
-use Rattle.emit.proofs.Properties.{left_begin, left_unnamed, left_named, left_end, left_wrong, left_cut, within, carried_begin, carried_unnamed, carried_named, carried_end}
-use Rattle.commands.specs.declared.root.PropertyCommand.{PropertyCommand}
-use Rattle.commands.specs.Sizes.{property_size}
+use Rattle.emit.proofs.Properties.{left_begin, left_unnamed, left_named, left_end, left_error, carried_begin, carried_unnamed, carried_named, carried_end}
 use Rattle.emit.proofs.jsx_impl.carry_over.Goals as goal
-use Rattle.emit.proofs.jsx_impl.carry_over.Goals.{After-property_command_at-command, Start}
+use Rattle.emit.proofs.jsx_impl.carry_over.Goals.{In-Ok-Property, In-Ok-Named}
 
-short : (c : Start) → length c.args.calls.now ≤ 2 ^ 63
-short c = omega arith
+property : (c : In-Ok-Property) → property_command c.loop-e.rest.now ≡ Ok (command.Property c.in-Ok-Property.e)
+property c = told c.property_command_at.ensures (let e : c.property_command_at.result ≡ Ok (command.Property c.in-Ok-Property.e) = cc in e)
 
--- what the reader saw at i, and that it is within the tape
-there : (c : After-property_command_at-command) {k : PropertyCommand} → c.property_command_at-command.result ≡ k → property_command (drop c.loop-e.i c.args.tape.now) ≡ k
-there c q = seen property_command c.args.tape.now c.loop-e.i c.property_command_at-command.ensures q
-
-fits : (c : After-property_command_at-command) {k : PropertyCommand} → c.property_command_at-command.result ≡ k → c.loop-e.i + property_size k ≤ length c.args.tape.now
-fits c q = within c.args.tape.now c.loop-e.i _ c.loop-e.invariant.0 (there c q)
+named : (c : In-Ok-Named) → property_command c.loop-e.rest.now ≡ Ok (command.Named c.in-Ok-Named.e c.in-Ok-Named.field-0-1)
+named c = told c.property_command_at.ensures (let e : c.property_command_at.result ≡ Ok (command.Named c.in-Ok-Named.e c.in-Ok-Named.field-0-1) = cc in e)
 
 pub loop-e-init : goal.loop-e-init
-loop-e-init c = (omega arith, refl, λ text f ps u h d. left_begin h d (carried_begin ps _ _))
+loop-e-init c = (refl, λ text f ps u h d. left_begin h d (carried_begin ps _ _))
 
-pub overflow_add-i : goal.overflow_add-i
-overflow_add-i c = omega (arith, fits (goal.at.overflow_add-i c).After-property_command_at-command c.in-Property.is)
+pub slice_bounds-rest-count : goal.slice_bounds-rest-count
+slice_bounds-rest-count c = property_fits c.loop-e.rest.now (property (goal.at.slice_bounds-rest-count c).In-Ok-Property)
 
-pub loop-e-smaller-in-Property : goal.loop-e-smaller-in-Property
-loop-e-smaller-in-Property c = omega (arith, fits (goal.at.loop-e-smaller-in-Property c).After-property_command_at-command c.in-Property.is)
+pub slice_bounds-rest-start : goal.slice_bounds-rest-start
+slice_bounds-rest-start c = omega (arith, property_fits c.loop-e.rest.now (property (goal.at.slice_bounds-rest-start c).In-Ok-Property))
 
-pub loop-e-preserved-in-Property : goal.loop-e-preserved-in-Property
+pub loop-e-smaller-in-Ok-Property : goal.loop-e-smaller-in-Ok-Property
+loop-e-smaller-in-Ok-Property c =
+    omega
+    (arith, property_fits c.loop-e.rest.now (property (goal.at.loop-e-smaller-in-Ok-Property c).In-Ok-Property), ap length (tail_part c.loop-e.rest.now 3), length-drop 3 c.loop-e.rest.now)
+
+pub loop-e-preserved-in-Ok-Property : goal.loop-e-preserved-in-Ok-Property
 unfolding expression_code
-loop-e-preserved-in-Property c = (
-  omega (arith, fits (goal.at.loop-e-preserved-in-Property c).After-property_command_at-command c.in-Property.is),
+loop-e-preserved-in-Ok-Property c = (
   omega arith,
-  λ text f ps u h d. left_unnamed (c.loop-e.invariant.2 text f ps u h d) (there (goal.at.loop-e-preserved-in-Property c).After-property_command_at-command c.in-Property.is) (carried_unnamed _ (short (goal.at.loop-e-preserved-in-Property c).Start) (c.put_over-next.ensures call.carried refl)),
+  λ text f ps u h d. left_unnamed (c.loop-e.invariant.1 text f ps u h d) (property (goal.at.loop-e-preserved-in-Ok-Property c).In-Ok-Property)
+      (tail_part c.loop-e.rest.now 3) (carried_unnamed _ (omega arith) c.put_over-next.ensures),
 )
 
-pub overflow_add-i-in-Named : goal.overflow_add-i-in-Named
-overflow_add-i-in-Named c = omega (arith, fits (goal.at.overflow_add-i-in-Named c).After-property_command_at-command c.in-Named.is)
+pub slice_bounds-rest-count-in-Ok-Named : goal.slice_bounds-rest-count-in-Ok-Named
+slice_bounds-rest-count-in-Ok-Named c = property_fits c.loop-e.rest.now (named (goal.at.slice_bounds-rest-count-in-Ok-Named c).In-Ok-Named)
+
+pub slice_bounds-rest-start-in-Ok-Named : goal.slice_bounds-rest-start-in-Ok-Named
+slice_bounds-rest-start-in-Ok-Named c = omega (arith, property_fits c.loop-e.rest.now (named (goal.at.slice_bounds-rest-start-in-Ok-Named c).In-Ok-Named))
 
 pub loop-e-smaller : goal.loop-e-smaller
-loop-e-smaller c = omega (arith, fits (goal.at.loop-e-smaller c).After-property_command_at-command c.in-Named.is)
+loop-e-smaller c =
+    omega (arith, property_fits c.loop-e.rest.now (named (goal.at.loop-e-smaller c).In-Ok-Named), ap length (tail_part c.loop-e.rest.now 7), length-drop 7 c.loop-e.rest.now)
 
 pub loop-e-preserved : goal.loop-e-preserved
 unfolding expression_code
 loop-e-preserved c = (
-  omega (arith, fits (goal.at.loop-e-preserved c).After-property_command_at-command c.in-Named.is),
   omega arith,
-  λ text f ps u h d. left_named (c.loop-e.invariant.2 text f ps u h d) (there (goal.at.loop-e-preserved c).After-property_command_at-command c.in-Named.is) (carried_named _ _ (short (goal.at.loop-e-preserved c).Start) (c.put_over-next-in-Named.ensures call.carried refl)),
+  λ text f ps u h d. left_named (c.loop-e.invariant.1 text f ps u h d) (named (goal.at.loop-e-preserved c).In-Ok-Named) (tail_part c.loop-e.rest.now 7)
+      (carried_named _ _ (omega arith) c.put_over-next-in-Ok-Named.ensures),
 )
 
-pub returns-in-End : goal.returns-in-End
-returns-in-End c = λ text f ps u h d. carried_end (left_end (c.loop-e.invariant.2 text f ps u h d) (there (goal.at.returns-in-End c).After-property_command_at-command c.in-End.is)).0
+pub returns-in-Ok-End : goal.returns-in-Ok-End
+returns-in-Ok-End c =
+    let e : c.property_command_at.result ≡ Ok command.End = cc in
+    λ text f ps u h d. carried_end (left_end (c.loop-e.invariant.1 text f ps u h d) (told c.property_command_at.ensures e)).0
 
-pub returns-in-Wrong : goal.returns-in-Wrong
-returns-in-Wrong c = λ text f ps u h d. left_wrong (c.loop-e.invariant.2 text f ps u h d) (there (goal.at.returns-in-Wrong c).After-property_command_at-command c.in-Wrong.is)
-
-pub returns-in-Cut : goal.returns-in-Cut
-returns-in-Cut c = λ text f ps u h d. left_cut (c.loop-e.invariant.2 text f ps u h d) (there (goal.at.returns-in-Cut c).After-property_command_at-command c.in-Cut.is)
+pub returns-in-Err : goal.returns-in-Err
+returns-in-Err c = λ text f ps u h d. left_error (c.loop-e.invariant.1 text f ps u h d) (told c.property_command_at.ensures c.in-Err.is)

@@ -1,4 +1,4 @@
-use Prim.Native.Nat.{ℕ, ◌≤◌, ◌<◌, ◌-◌}
+use Prim.Native.Nat.{ℕ, ◌<◌}
 use lib.ListN.{length}
 use mathlib.Core.Path.{◌≡◌}
 use mathlib.Core.List.{List}
@@ -10,10 +10,9 @@ use Rattle.emit.proofs.jsx_impl.carry_over.Given as goal
 
 abbrev pub invariant-loop-e : goal.invariant-loop-e
 invariant-loop-e l =
-    (l.i ≤ length l.tape)
-    × (length l.calls ≡ length l.initial.calls)
+    (length l.calls ≡ length l.initial.calls)
     × ((text : List ℕ) (f : ℕ) (ps : List Property) (u : ℕ) → length l.tape < f → properties_at f text l.tape ≡ done ps u
-    → PropertiesLeft text l.tape ps u l.i (Carried ps l.initial.calls l.calls l.initial.next l.next))
+    → PropertiesLeft text l.tape ps u l.rest (Carried ps l.initial.calls l.calls l.initial.next l.next))
 
 abbrev pub decreases-loop-e : goal.decreases-loop-e
-decreases-loop-e l = length l.tape - l.i
+decreases-loop-e l = length l.rest

@@ -7,5 +7,5 @@ use Rattle.emit.proofs.jsx_impl.closing.Goals as goal
 
 pub returns : goal.returns
 unfolding bare_code byte_code
-returns c = called_then (omega arith) (c.put_bare-begun.ensures call.callee refl)
-    (called_then (omega arith) (rw c.mode_of.ensures at c.get_create_element-called.ensures) (rw (← c.is_pure.ensures, ← c.pure_byte.ensures) (c.put_byte.ensures call.call_end refl)))
+returns c = called_then (omega arith) c.put_bare-begun.ensures
+    (called_then (omega arith) c.get_create_element-called.ensures (rw (← c.pure_byte.ensures) c.put_byte.ensures))

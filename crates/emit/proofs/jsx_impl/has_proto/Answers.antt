@@ -1,66 +1,69 @@
-use Prim.Native.Nat.{◌+◌, ◌≤◌}
-use lib.ListN.{drop, length}
-use native.Mathlib.Omega.{arith}
-use mathlib.Core.Path.{◌≡◌, refl, sym}
+use Rattle.std.proofs.Common.{◌≡◌, Ok, length, refl, ap, arith}
+use lib.ListN.{length-drop}
+use Rattle.commands.specs.declared.root.PropertyCommand.TheVariants as command
 use Rattle.commands.specs.Root.{property_command}
-use Rattle.emit.proofs.Readings.{seen}
-use Rattle.emit.proofs.Properties.{left_begin, left_unnamed, left_named, left_end, left_wrong, left_cut, within, proto_unnamed, proto_named, proto_end}
-use Rattle.commands.specs.declared.root.PropertyCommand.{PropertyCommand}
-use Rattle.commands.specs.Sizes.{property_size}
+use Rattle.commands.proofs.Lengths.{property_fits}
+use Rattle.text.proofs.Lists.{told, tail_part}
+use Rattle.emit.proofs.Properties.{left_begin, left_unnamed, left_named, left_end, left_error, proto_unnamed, proto_named, proto_end}
 use Rattle.emit.proofs.jsx_impl.has_proto.Goals as goal
-use Rattle.emit.proofs.jsx_impl.has_proto.Goals.{After-property_command_at-command}
+use Rattle.emit.proofs.jsx_impl.has_proto.Goals.{In-Ok-Property, In-Ok-Named, In-Ok-End}
 
--- what the reader saw at i, and that it is within the tape
-there : (c : After-property_command_at-command) {k : PropertyCommand} → c.property_command_at-command.result ≡ k → property_command (drop c.loop-i.i c.args.tape.now) ≡ k
-there c q = seen property_command c.args.tape.now c.loop-i.i c.property_command_at-command.ensures q
+property : (c : In-Ok-Property) → property_command c.loop-rest.rest.now ≡ Ok (command.Property c.in-Ok-Property.field-0-0)
+property c = told c.property_command_at.ensures (let e : c.property_command_at.result ≡ Ok (command.Property c.in-Ok-Property.field-0-0) = cc in e)
 
-fits : (c : After-property_command_at-command) {k : PropertyCommand} → c.property_command_at-command.result ≡ k → c.loop-i.i + property_size k ≤ length c.args.tape.now
-fits c q = within c.args.tape.now c.loop-i.i _ c.loop-i.invariant.0 (there c q)
+named : (c : In-Ok-Named) → property_command c.loop-rest.rest.now ≡ Ok (command.Named c.in-Ok-Named.field-0-0 c.in-Ok-Named.name)
+named c = told c.property_command_at.ensures (let e : c.property_command_at.result ≡ Ok (command.Named c.in-Ok-Named.field-0-0 c.in-Ok-Named.name) = cc in e)
 
-pub loop-i-init : goal.loop-i-init
-loop-i-init c = (omega arith, λ k e f ps u h d. left_begin h d refl)
+ends : (c : In-Ok-End) → property_command c.loop-rest.rest.now ≡ Ok command.End
+ends c = told c.property_command_at.ensures (let e : c.property_command_at.result ≡ Ok command.End = cc in e)
 
-pub overflow_add-i : goal.overflow_add-i
-overflow_add-i c = omega (arith, fits (goal.at.overflow_add-i c).After-property_command_at-command c.in-Property.is)
+pub loop-rest-init : goal.loop-rest-init
+loop-rest-init c = (omega arith, λ f ps u h d. left_begin h d refl)
 
-pub loop-i-smaller-in-Property : goal.loop-i-smaller-in-Property
-loop-i-smaller-in-Property c = omega (arith, fits (goal.at.loop-i-smaller-in-Property c).After-property_command_at-command c.in-Property.is)
+pub slice_bounds-rest-count : goal.slice_bounds-rest-count
+slice_bounds-rest-count c = property_fits c.loop-rest.rest.now (property (goal.at.slice_bounds-rest-count c).In-Ok-Property)
 
-pub loop-i-preserved-in-Property : goal.loop-i-preserved-in-Property
-loop-i-preserved-in-Property c = (
-  omega (arith, fits (goal.at.loop-i-preserved-in-Property c).After-property_command_at-command c.in-Property.is),
-  λ k e f ps u h d. left_unnamed (c.loop-i.invariant.1 k e f ps u h d) (there (goal.at.loop-i-preserved-in-Property c).After-property_command_at-command c.in-Property.is) (λ r x. proto_unnamed k ps c.loop-i.found _ r x),
+pub slice_bounds-rest-start : goal.slice_bounds-rest-start
+slice_bounds-rest-start c = omega (arith, property_fits c.loop-rest.rest.now (property (goal.at.slice_bounds-rest-start c).In-Ok-Property))
+
+pub loop-rest-smaller-in-Ok-Property : goal.loop-rest-smaller-in-Ok-Property
+loop-rest-smaller-in-Ok-Property c =
+    omega
+    (arith, property_fits c.loop-rest.rest.now (property (goal.at.loop-rest-smaller-in-Ok-Property c).In-Ok-Property), ap length (tail_part c.loop-rest.rest.now 3), length-drop 3 c.loop-rest.rest.now)
+
+pub loop-rest-preserved-in-Ok-Property : goal.loop-rest-preserved-in-Ok-Property
+loop-rest-preserved-in-Ok-Property c = (
+  omega (arith, c.loop-rest.invariant.0, ap length (tail_part c.loop-rest.rest.now 3), length-drop 3 c.loop-rest.rest.now),
+  λ f ps u h d. left_unnamed (c.loop-rest.invariant.1 f ps u h d) (property (goal.at.loop-rest-preserved-in-Ok-Property c).In-Ok-Property)
+      (tail_part c.loop-rest.rest.now 3) (λ r x. proto_unnamed _ ps c.loop-rest.found _ r x),
 )
 
-pub overflow_add-i-in-Named : goal.overflow_add-i-in-Named
-overflow_add-i-in-Named c = omega (arith, fits (goal.at.overflow_add-i-in-Named c).After-property_command_at-command c.in-Named.is)
+pub slice_bounds-rest-count-in-Ok-Named : goal.slice_bounds-rest-count-in-Ok-Named
+slice_bounds-rest-count-in-Ok-Named c = property_fits c.loop-rest.rest.now (named (goal.at.slice_bounds-rest-count-in-Ok-Named c).In-Ok-Named)
 
-pub loop-i-smaller : goal.loop-i-smaller
-loop-i-smaller c = omega (arith, fits (goal.at.loop-i-smaller c).After-property_command_at-command c.in-Named.is)
+pub slice_bounds-rest-start-in-Ok-Named : goal.slice_bounds-rest-start-in-Ok-Named
+slice_bounds-rest-start-in-Ok-Named c = omega (arith, property_fits c.loop-rest.rest.now (named (goal.at.slice_bounds-rest-start-in-Ok-Named c).In-Ok-Named))
 
-pub loop-i-preserved : goal.loop-i-preserved
-loop-i-preserved c = (
-  omega (arith, fits (goal.at.loop-i-preserved c).After-property_command_at-command c.in-Named.is),
-  λ k e f ps u h d. left_named (c.loop-i.invariant.1 k e f ps u h d) (there (goal.at.loop-i-preserved c).After-property_command_at-command c.in-Named.is) (λ r x. proto_named k ps c.loop-i.found _ _ r e c.is_proto-found.ensures x),
+pub loop-rest-smaller : goal.loop-rest-smaller
+loop-rest-smaller c =
+    omega
+    (arith, property_fits c.loop-rest.rest.now (named (goal.at.loop-rest-smaller c).In-Ok-Named), ap length (tail_part c.loop-rest.rest.now 7), length-drop 7 c.loop-rest.rest.now)
+
+pub loop-rest-preserved : goal.loop-rest-preserved
+loop-rest-preserved c = (
+  omega (arith, c.loop-rest.invariant.0, ap length (tail_part c.loop-rest.rest.now 7), length-drop 7 c.loop-rest.rest.now),
+  λ f ps u h d. left_named (c.loop-rest.invariant.1 f ps u h d) (named (goal.at.loop-rest-preserved c).In-Ok-Named) (tail_part c.loop-rest.rest.now 7)
+      (λ r x. proto_named _ ps c.loop-rest.found _ _ r refl c.is_proto-found.ensures x),
 )
 
-pub overflow_add-result : goal.overflow_add-result
-overflow_add-result c = omega (arith, fits (goal.at.overflow_add-result c).After-property_command_at-command c.in-End.is)
+pub returns-in-Ok-End-clause-used_in_bounds : goal.returns-in-Ok-End-clause-used_in_bounds
+returns-in-Ok-End-clause-used_in_bounds c =
+    omega (arith, c.loop-rest.invariant.0, property_fits c.loop-rest.rest.now (ends (goal.at.returns-in-Ok-End-clause-used_in_bounds c).In-Ok-End))
 
-pub returns-in-End : goal.returns-in-End
-returns-in-End c = record {
-  used_in_bounds = omega (arith, fits (goal.at.returns-in-End c).After-property_command_at-command c.in-End.is);
-  found_value = λ k e f ps u h d. let z = left_end (c.loop-i.invariant.1 k e f ps u h d) (there (goal.at.returns-in-End c).After-property_command_at-command c.in-End.is) in (proto_end k ps c.loop-i.found z.0, sym z.1);
-}
+pub returns-in-Ok-End-clause-found_value : goal.returns-in-Ok-End-clause-found_value
+returns-in-Ok-End-clause-found_value c =
+    λ f ps u h d. let z = left_end (c.loop-rest.invariant.1 f ps u h d) (ends (goal.at.returns-in-Ok-End-clause-found_value c).In-Ok-End) in
+    (proto_end _ ps c.loop-rest.found z.0, omega (arith, z.1, c.loop-rest.invariant.0))
 
-pub returns-in-Wrong : goal.returns-in-Wrong
-returns-in-Wrong c = record {
-  used_in_bounds = c.loop-i.invariant.0;
-  found_value = λ k e f ps u h d. left_wrong (c.loop-i.invariant.1 k e f ps u h d) (there (goal.at.returns-in-Wrong c).After-property_command_at-command c.in-Wrong.is);
-}
-
-pub returns-in-Cut : goal.returns-in-Cut
-returns-in-Cut c = record {
-  used_in_bounds = c.loop-i.invariant.0;
-  found_value = λ k e f ps u h d. left_cut (c.loop-i.invariant.1 k e f ps u h d) (there (goal.at.returns-in-Cut c).After-property_command_at-command c.in-Cut.is);
-}
+pub returns-in-Err-clause-found_value : goal.returns-in-Err-clause-found_value
+returns-in-Err-clause-found_value c = λ f ps u h d. left_error (c.loop-rest.invariant.1 f ps u h d) (told c.property_command_at.ensures c.in-Err.is)

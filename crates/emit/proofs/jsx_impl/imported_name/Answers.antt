@@ -13,8 +13,8 @@ returns-in-Module c = rw (c.in-Module.is, ← c.source_of-source.ensures) c.put_
 pub returns-in-Script : goal.returns-in-Script
 unfolding imported byte_code
 returns-in-Script c = rw (c.in-Script.is, ← c.source_of-source.ensures)
-    (called_then (omega arith) c.put_binding-required.ensures (c.put_byte.ensures call.member refl))
+    (called_then (omega arith) c.put_binding-required.ensures c.put_byte.ensures)
 
 pub returns-in-Classic : goal.returns-in-Classic
 unfolding imported byte_code
-returns-in-Classic c = rw c.in-Classic.is (c.put_byte-in-Classic.ensures call.pragma refl)
+returns-in-Classic c = rw c.in-Classic.is c.put_byte-in-Classic.ensures

@@ -8,15 +8,15 @@ pub returns-then-proto : goal.returns-then-proto
 unfolding expression_code
 returns-then-proto c = record {
   used_in_bounds = c.has_proto-proto.ensures.used_in_bounds;
-  used_value = λ k e f ps u h d.
-      let z = c.has_proto-proto.ensures.found_value k e f ps u h d in
-      (z.1, rw (told z.0 c.if-proto.true) (c.put_over-spread.ensures call.spread_property refl));
+  used_value = λ f ps u h d.
+      let z = c.has_proto-proto.ensures.found_value f ps u h d in
+      (z.1, rw (told z.0 c.if-proto.true) c.put_over-spread.ensures);
 }
 
 pub returns : goal.returns
 returns c = record {
   used_in_bounds = c.has_proto-proto.ensures.used_in_bounds;
-  used_value = λ k e f ps u h d.
-      let z = c.has_proto-proto.ensures.found_value k e f ps u h d in
+  used_value = λ f ps u h d.
+      let z = c.has_proto-proto.ensures.found_value f ps u h d in
       (z.1, rw (told z.0 c.if-proto.false) (c.carry_over-carried.ensures _ f ps u h d));
 }

@@ -1,4 +1,3 @@
-use Rattle.text.proofs.Lists.{told}
 use mathlib.Core.Path.{refl}
 use Rattle.definitions.specs.Lowering.{static_children}
 use borrow.Author.Tests.{le-leb, lt-leb}
@@ -7,14 +6,14 @@ use Rattle.definitions.specs.Calls as call
 use Rattle.definitions.specs.Calls.{bare_code}
 use Rattle.emit.proofs.jsx_impl.static_children.Goals as goal
 
-pub returns-then-not-is_development : goal.returns-then-not-is_development
+pub returns-then-not-context : goal.returns-then-not-context
 unfolding static_children
-returns-then-not-is_development c = λ k e. rw (e, told c.is_development.ensures c.if-not-is_development.true) (called_none _ _)
+returns-then-not-context c = rw c.if-not-context.true (called_none _ _)
 
 pub returns-then-count-ge2 : goal.returns-then-count-ge2
 unfolding static_children bare_code
-returns-then-count-ge2 c = λ k e. rw (e, told c.is_development.ensures c.if-not-is_development.false, le-leb _ _ c.if-count-ge2.true) (c.put_bare.ensures call.literal_true refl)
+returns-then-count-ge2 c = rw (c.if-not-context.false, le-leb _ _ c.if-count-ge2.true) c.put_bare.ensures
 
 pub returns : goal.returns
 unfolding static_children bare_code
-returns c = λ k e. rw (e, told c.is_development.ensures c.if-not-is_development.false, lt-leb _ _ c.if-count-ge2.false) (c.put_bare-2.ensures call.literal_false refl)
+returns c = rw (c.if-not-context.false, lt-leb _ _ c.if-count-ge2.false) c.put_bare-2.ensures

@@ -1,76 +1,80 @@
-use mathlib.Core.Path.{◌≡◌, refl}
-use Prim.Native.Nat.{◌≤◌, ◌^◌}
-use native.Mathlib.Omega.{arith}
-use lib.ListN.{length}
+use Rattle.std.proofs.Common.{◌≡◌, Ok, refl, arith}
 use Rattle.text.proofs.Lists.{told}
+use Rattle.commands.specs.declared.root.NameCommand.TheVariants as command
+use Rattle.commands.specs.Root.{name_command}
 use Rattle.commands.proofs.Lengths.{name_fits}
 use Rattle.definitions.specs.Reading.{members_at}
 use Rattle.definitions.specs.Calls as call
 use Rattle.definitions.specs.Calls.{span_code, bare_code}
 use Rattle.definitions.specs.Lowering.{lower_name}
 use Rattle.emit.proofs.Readings.{in_part, part_short}
-use Rattle.emit.proofs.Names.{name_plain, name_identifier, name_this, name_namespaced, name_wrong, name_cut}
+use Rattle.emit.proofs.Names.{name_plain, name_identifier, name_this, name_namespaced, name_error}
 use Rattle.pen.proofs.Emitting.{called_then, called_produced, noticed_produced, produced_then}
-use Rattle.commands.specs.declared.root.NameCommand.{NameCommand}
-use Rattle.commands.specs.Root.{name_command}
 use Rattle.emit.proofs.jsx_impl.transform_element_name.Goals as goal
-use Rattle.emit.proofs.jsx_impl.transform_element_name.Goals.{After-name_command_at-command, Start}
+use Rattle.emit.proofs.jsx_impl.transform_element_name.Goals.{In-Ok-Identifier, In-Ok-This, In-Ok-Namespaced}
 
-short : (c : Start) → (length c.args.calls.now ≤ 2 ^ 63) × (length c.args.notices.now ≤ 2 ^ 63)
-short c = (omega arith, omega arith)
+identifier : (c : In-Ok-Identifier) → name_command c.args.tape.now ≡ Ok (command.Identifier c.in-Ok-Identifier.name)
+identifier c = told c.name_command_at.ensures (let e : c.name_command_at.result ≡ Ok (command.Identifier c.in-Ok-Identifier.name) = cc in e)
 
--- what the reader saw
-there : (c : After-name_command_at-command) {k : NameCommand} → c.name_command_at-command.result ≡ k → name_command c.args.tape.now ≡ k
-there c q = told c.name_command_at-command.ensures q
+this : (c : In-Ok-This) → name_command c.args.tape.now ≡ Ok command.This
+this c = told c.name_command_at.ensures (let e : c.name_command_at.result ≡ Ok command.This = cc in e)
+
+namespaced : (c : In-Ok-Namespaced) → name_command c.args.tape.now ≡ Ok (command.Namespaced c.in-Ok-Namespaced.namespace c.in-Ok-Namespaced.name)
+namespaced c =
+    told c.name_command_at.ensures
+    (let e : c.name_command_at.result ≡ Ok (command.Namespaced c.in-Ok-Namespaced.namespace c.in-Ok-Namespaced.name) = cc in e)
 
 pub slice_bounds-transform_jsx_member_expression-count : goal.slice_bounds-transform_jsx_member_expression-count
-slice_bounds-transform_jsx_member_expression-count c = omega (arith, name_fits c.args.tape.now (there (goal.at.slice_bounds-transform_jsx_member_expression-count c).After-name_command_at-command c.in-Identifier.is))
+slice_bounds-transform_jsx_member_expression-count c =
+    name_fits c.args.tape.now (identifier (goal.at.slice_bounds-transform_jsx_member_expression-count c).In-Ok-Identifier)
 
 pub slice_bounds-transform_jsx_member_expression-start : goal.slice_bounds-transform_jsx_member_expression-start
-slice_bounds-transform_jsx_member_expression-start c = omega (arith, name_fits c.args.tape.now (there (goal.at.slice_bounds-transform_jsx_member_expression-start c).After-name_command_at-command c.in-Identifier.is))
+slice_bounds-transform_jsx_member_expression-start c =
+    omega (arith, name_fits c.args.tape.now (identifier (goal.at.slice_bounds-transform_jsx_member_expression-start c).In-Ok-Identifier))
 
-pub slice_bounds-transform_jsx_member_expression-count-in-This : goal.slice_bounds-transform_jsx_member_expression-count-in-This
-slice_bounds-transform_jsx_member_expression-count-in-This c = omega (arith, name_fits c.args.tape.now (there (goal.at.slice_bounds-transform_jsx_member_expression-count-in-This c).After-name_command_at-command c.in-This.is))
+pub slice_bounds-transform_jsx_member_expression-count-in-Ok-This : goal.slice_bounds-transform_jsx_member_expression-count-in-Ok-This
+slice_bounds-transform_jsx_member_expression-count-in-Ok-This c =
+    name_fits c.args.tape.now (this (goal.at.slice_bounds-transform_jsx_member_expression-count-in-Ok-This c).In-Ok-This)
 
-pub slice_bounds-transform_jsx_member_expression-start-in-This : goal.slice_bounds-transform_jsx_member_expression-start-in-This
-slice_bounds-transform_jsx_member_expression-start-in-This c = omega (arith, name_fits c.args.tape.now (there (goal.at.slice_bounds-transform_jsx_member_expression-start-in-This c).After-name_command_at-command c.in-This.is))
+pub slice_bounds-transform_jsx_member_expression-start-in-Ok-This : goal.slice_bounds-transform_jsx_member_expression-start-in-Ok-This
+slice_bounds-transform_jsx_member_expression-start-in-Ok-This c =
+    omega (arith, name_fits c.args.tape.now (this (goal.at.slice_bounds-transform_jsx_member_expression-start-in-Ok-This c).In-Ok-This))
 
-pub returns-then-throws_if_namespace : goal.returns-then-throws_if_namespace
+pub returns-then-context : goal.returns-then-context
 unfolding lower_name
-returns-then-throws_if_namespace c = λ k e text f n u h r.
-    rw (← name_namespaced f text c.args.tape.now n u r c.in-Namespaced.namespace c.in-Namespaced.name (there (goal.at.returns-then-throws_if_namespace c).After-name_command_at-command c.in-Namespaced.is), e, told c.throws_if_namespace.ensures c.if-throws_if_namespace.true)
-    (produced_then (short (goal.at.returns-then-throws_if_namespace c).Start).0 (short (goal.at.returns-then-throws_if_namespace c).Start).1 (noticed_produced c.namespace_does_not_support-told.ensures) (called_produced c.put_namespaced.ensures))
+returns-then-context c = λ text f n u h r.
+    rw (← name_namespaced f text c.args.tape.now n u r c.in-Ok-Namespaced.namespace c.in-Ok-Namespaced.name (namespaced (goal.at.returns-then-context c).In-Ok-Namespaced), c.if-context.true)
+    (produced_then (omega arith) (omega arith) (noticed_produced c.namespace_does_not_support-told.ensures) (called_produced c.put_namespaced.ensures))
 
-pub returns-in-Plain : goal.returns-in-Plain
+pub returns-in-Ok-Plain : goal.returns-in-Ok-Plain
 unfolding lower_name
-returns-in-Plain c = λ k e text f n u h r.
-    rw (← name_plain f text c.args.tape.now n u r c.in-Plain.name (there (goal.at.returns-in-Plain c).After-name_command_at-command c.in-Plain.is)) (called_produced c.put_string.ensures)
+returns-in-Ok-Plain c =
+    let e : c.name_command_at.result ≡ Ok (command.Plain c.in-Ok-Plain.name) = cc in
+    λ text f n u h r. rw (← name_plain f text c.args.tape.now n u r c.in-Ok-Plain.name (told c.name_command_at.ensures e)) (called_produced c.put_string.ensures)
 
-pub returns-in-Identifier : goal.returns-in-Identifier
+pub returns-in-Ok-Identifier : goal.returns-in-Ok-Identifier
 unfolding lower_name span_code
-returns-in-Identifier c = λ k e text f n u h r.
-    let m = name_identifier f text c.args.tape.now n u r c.in-Identifier.name (there (goal.at.returns-in-Identifier c).After-name_command_at-command c.in-Identifier.is) in
+returns-in-Ok-Identifier c = λ text f n u h r.
+    let m = name_identifier f text c.args.tape.now n u r c.in-Ok-Identifier.name (identifier (goal.at.returns-in-Ok-Identifier c).In-Ok-Identifier) in
     rw (← m.is)
     (called_produced
-    (called_then (short (goal.at.returns-in-Identifier c).Start).0 (c.put_spanned-object.ensures call.identifier refl)
+    (called_then (omega arith) c.put_spanned-object.ensures
     (c.transform_jsx_member_expression.ensures text f m.members m.size (part_short c.args.tape.now 5 f h) (in_part (members_at f text) c.args.tape.now 5 m.reads))))
 
-pub returns-in-This : goal.returns-in-This
+pub returns-in-Ok-This : goal.returns-in-Ok-This
 unfolding lower_name bare_code
-returns-in-This c = λ k e text f n u h r.
-    let m = name_this f text c.args.tape.now n u r (there (goal.at.returns-in-This c).After-name_command_at-command c.in-This.is) in
+returns-in-Ok-This c = λ text f n u h r.
+    let m = name_this f text c.args.tape.now n u r (this (goal.at.returns-in-Ok-This c).In-Ok-This) in
     rw (← m.is)
     (called_produced
-    (called_then (short (goal.at.returns-in-This c).Start).0 (c.put_bare-object.ensures call.this refl)
-    (c.transform_jsx_member_expression-in-This.ensures text f m.members m.size (part_short c.args.tape.now 1 f h) (in_part (members_at f text) c.args.tape.now 1 m.reads))))
+    (called_then (omega arith) c.put_bare-object.ensures
+    (c.transform_jsx_member_expression-in-Ok-This.ensures text f m.members m.size (part_short c.args.tape.now 1 f h) (in_part (members_at f text) c.args.tape.now 1 m.reads))))
 
-pub returns-else-throws_if_namespace : goal.returns-else-throws_if_namespace
+pub returns-else-context : goal.returns-else-context
 unfolding lower_name
-returns-else-throws_if_namespace c = λ k e text f n u h r.
-    rw (← name_namespaced f text c.args.tape.now n u r c.in-Namespaced.namespace c.in-Namespaced.name (there (goal.at.returns-else-throws_if_namespace c).After-name_command_at-command c.in-Namespaced.is), e, told c.throws_if_namespace.ensures c.if-throws_if_namespace.false) (called_produced c.put_namespaced-in-Namespaced.ensures)
+returns-else-context c = λ text f n u h r.
+    rw (← name_namespaced f text c.args.tape.now n u r c.in-Ok-Namespaced.namespace c.in-Ok-Namespaced.name (namespaced (goal.at.returns-else-context c).In-Ok-Namespaced), c.if-context.false)
+    (called_produced c.put_namespaced-in-Ok-Namespaced.ensures)
 
-pub returns-in-Wrong : goal.returns-in-Wrong
-returns-in-Wrong c = λ k e text f n u h r. name_wrong f text c.args.tape.now n u r (there (goal.at.returns-in-Wrong c).After-name_command_at-command c.in-Wrong.is)
-
-pub returns-in-Cut : goal.returns-in-Cut
-returns-in-Cut c = λ k e text f n u h r. name_cut f text c.args.tape.now n u r (there (goal.at.returns-in-Cut c).After-name_command_at-command c.in-Cut.is)
+pub returns-in-Err : goal.returns-in-Err
+returns-in-Err c = λ text f n u h r. name_error f text c.args.tape.now n u r (told c.name_command_at.ensures c.in-Err.is)

@@ -1,4 +1,4 @@
-use Prim.Native.Nat.{ℕ, ◌≤◌, ◌<◌, ◌-◌}
+use Prim.Native.Nat.{ℕ, ◌<◌}
 use lib.ListN.{length}
 use mathlib.Core.Path.{◌≡◌}
 use mathlib.Core.List.{List}
@@ -10,9 +10,9 @@ use Rattle.emit.proofs.jsx_impl.transform_jsx_member_expression.Given as goal
 
 abbrev pub invariant-loop-name : goal.invariant-loop-name
 invariant-loop-name l =
-    (l.i ≤ length l.tape)
-    × (length l.calls ≡ length l.initial.calls)
-    × ((text : List ℕ) (f : ℕ) (ms : List Span) (u : ℕ) → length l.tape < f → members_at f text l.tape ≡ done ms u → MembersLeft text l.tape ms l.i l.initial.calls l.calls l.initial.next l.next)
+    (length l.calls ≡ length l.initial.calls)
+    × ((text : List ℕ) (f : ℕ) (ms : List Span) (u : ℕ) → length l.tape < f → members_at f text l.tape ≡ done ms u
+    → MembersLeft text ms l.rest l.initial.calls l.calls l.initial.next l.next)
 
 abbrev pub decreases-loop-name : goal.decreases-loop-name
-decreases-loop-name l = length l.tape - l.i
+decreases-loop-name l = length l.rest

@@ -1,60 +1,53 @@
-use Prim.Native.Nat.{◌+◌, ◌≤◌}
-use lib.ListN.{drop, length}
-use native.Mathlib.Omega.{arith}
-use mathlib.Core.Path.{◌≡◌}
+use Rattle.std.proofs.Common.{◌≡◌, ◌≤◌, ◌+◌, ◌-◌, Ok, length, ap, arith}
+use lib.ListN.{length-drop}
+use Rattle.commands.specs.declared.root.ScopeCommand.TheVariants as scopes
 use Rattle.commands.specs.Root.{scope_command}
-use Rattle.emit.proofs.Readings.{seen}
-use Rattle.emit.proofs.RootHeads.{left_begin, left_scope, left_element, left_fragment, left_wrong, left_cut, left_bad, scope_within}
-use Rattle.commands.specs.declared.root.ScopeCommand.{ScopeCommand}
-use Rattle.commands.specs.Sizes.{scope_size}
+use Rattle.text.proofs.Lists.{told, tail_part}
+use Rattle.commands.proofs.Lengths.{scope_fits}
+use Rattle.emit.proofs.Readings.{rest_all, rest_more}
+use Rattle.emit.proofs.RootHeads.{left_begin, left_scope, left_over}
 use Rattle.emit.proofs.jsx_self.is_inside_constructor.Goals as goal
-use Rattle.emit.proofs.jsx_self.is_inside_constructor.Goals.{After-scope_command_at-command}
+use Rattle.emit.proofs.jsx_self.is_inside_constructor.Goals.{In-Ok-Scope, in-Ok-Element, in-Ok-Fragment, in-Err}
 
--- what the reader saw at i, and that it is within the tape
-there : (c : After-scope_command_at-command) {k : ScopeCommand} → c.scope_command_at-command.result ≡ k → scope_command c.loop-kind.known (drop c.loop-kind.i c.args.tape.now) ≡ k
-there c q = seen (scope_command c.loop-kind.known) c.args.tape.now c.loop-kind.i c.scope_command_at-command.ensures q
+seen : (c : In-Ok-Scope) → scope_command c.loop-kind.known c.loop-kind.rest.now ≡ Ok (scopes.Scope c.in-Ok-Scope.kind)
+seen c = told c.scope_command_at.ensures (let e : c.scope_command_at.result ≡ Ok (scopes.Scope c.in-Ok-Scope.kind) = cc in e)
 
-fits : (c : After-scope_command_at-command) {k : ScopeCommand} → c.scope_command_at-command.result ≡ k → c.loop-kind.i + scope_size k ≤ length c.args.tape.now
-fits c q = scope_within c.loop-kind.known c.args.tape.now c.loop-kind.i _ c.loop-kind.invariant.0 (there c q)
+fits : (c : In-Ok-Scope) → 2 ≤ length c.loop-kind.rest.now
+fits c = scope_fits c.loop-kind.known c.loop-kind.rest.now (seen c)
 
 pub loop-kind-init : goal.loop-kind-init
-loop-kind-init c = (omega arith, λ text f s u h e. left_begin h e)
+loop-kind-init c = (rest_all c.args.tape.now, λ text f s u h e. left_begin h e)
 
-pub overflow_add-i : goal.overflow_add-i
-overflow_add-i c = omega (arith, fits (goal.at.overflow_add-i c).After-scope_command_at-command c.in-Scope.is)
+pub slice_bounds-rest-count : goal.slice_bounds-rest-count
+slice_bounds-rest-count c = fits c
+
+pub slice_bounds-rest-start : goal.slice_bounds-rest-start
+slice_bounds-rest-start c = omega (arith, fits c)
 
 pub loop-kind-smaller : goal.loop-kind-smaller
-loop-kind-smaller c = omega (arith, fits (goal.at.loop-kind-smaller c).After-scope_command_at-command c.in-Scope.is)
+loop-kind-smaller c = omega (arith, fits (goal.at.loop-kind-smaller c).In-Ok-Scope, ap length (tail_part c.loop-kind.rest.now 2), length-drop 2 c.loop-kind.rest.now)
 
 pub loop-kind-preserved : goal.loop-kind-preserved
-loop-kind-preserved c = (omega (arith, fits (goal.at.loop-kind-preserved c).After-scope_command_at-command c.in-Scope.is), λ text f s u h e. left_scope (c.loop-kind.invariant.1 text f s u h e) (there (goal.at.loop-kind-preserved c).After-scope_command_at-command c.in-Scope.is))
+loop-kind-preserved c = (
+  rest_more 2 c.loop-kind.invariant.0 (fits (goal.at.loop-kind-preserved c).In-Ok-Scope) (tail_part c.loop-kind.rest.now 2),
+  λ text f s u h e. left_scope (c.loop-kind.invariant.1 text f s u h e) (seen (goal.at.loop-kind-preserved c).In-Ok-Scope) (tail_part c.loop-kind.rest.now 2),
+)
 
-pub returns-in-Element : goal.returns-in-Element
-returns-in-Element c = record {
-  used_in_bounds = c.loop-kind.invariant.0;
-  scopes = λ text f s u h e. left_element (c.loop-kind.invariant.1 text f s u h e) (there (goal.at.returns-in-Element c).After-scope_command_at-command c.in-Element.is);
-}
+pub overflow_sub-result : goal.overflow_sub-result
+overflow_sub-result c = omega (arith, c.loop-kind.invariant.0.size)
 
-pub returns-in-Fragment : goal.returns-in-Fragment
-returns-in-Fragment c = record {
-  used_in_bounds = c.loop-kind.invariant.0;
-  scopes = λ text f s u h e. left_fragment (c.loop-kind.invariant.1 text f s u h e) (there (goal.at.returns-in-Fragment c).After-scope_command_at-command c.in-Fragment.is);
-}
-
-pub returns-in-Wrong : goal.returns-in-Wrong
-returns-in-Wrong c = record {
-  used_in_bounds = c.loop-kind.invariant.0;
-  scopes = λ text f s u h e. left_wrong (c.loop-kind.invariant.1 text f s u h e) (there (goal.at.returns-in-Wrong c).After-scope_command_at-command c.in-Wrong.is);
-}
-
-pub returns-in-Cut : goal.returns-in-Cut
-returns-in-Cut c = record {
-  used_in_bounds = c.loop-kind.invariant.0;
-  scopes = λ text f s u h e. left_cut (c.loop-kind.invariant.1 text f s u h e) (there (goal.at.returns-in-Cut c).After-scope_command_at-command c.in-Cut.is);
-}
-
-pub returns-in-Bad : goal.returns-in-Bad
-returns-in-Bad c = record {
-  used_in_bounds = c.loop-kind.invariant.0;
-  scopes = λ text f s u h e. left_bad (c.loop-kind.invariant.1 text f s u h e) (there (goal.at.returns-in-Bad c).After-scope_command_at-command c.in-Bad.is);
-}
+pub returns-clause-scopes : goal.returns-clause-scopes
+returns-clause-scopes c =
+    λ text f s u h e.
+    let l = c.loop-kind.invariant.1 text f s u h e in
+    let used : length c.args.tape.now - length c.loop-kind.rest.now + length c.loop-kind.rest.now ≡ length c.args.tape.now =
+    omega (arith, c.loop-kind.invariant.0.size) in
+    elim c.match-scope_command_at.branch [
+      | in-Ok-Element w ↦
+          let q : c.scope_command_at.result ≡ Ok (scopes.Element w.in-Ok-Element.field-0-0) = cc in
+          left_over l (told c.scope_command_at.ensures q) tt c.loop-kind.invariant.0 used
+      | in-Ok-Fragment w ↦
+          let q : c.scope_command_at.result ≡ Ok (scopes.Fragment w.in-Ok-Fragment.field-0-0) = cc in
+          left_over l (told c.scope_command_at.ensures q) tt c.loop-kind.invariant.0 used
+      | in-Err w ↦ left_over l (told c.scope_command_at.ensures w.in-Err.is) tt c.loop-kind.invariant.0 used
+    ]

@@ -1,4 +1,5 @@
-use Rattle.jsx.specs.Parts.{context}
+use Rattle.emit.specs.Contexts.{context_of}
+use Rattle.jsx.specs.Parts.{KeyWithin}
 use Rattle.jsx.proofs.Parenting.{KidsLeft}
 use Rattle.definitions.specs.Judging.{done}
 use Rattle.definitions.specs.Tree.{Attributes}
@@ -37,7 +38,7 @@ abbrev pub decreases-create : goal.decreases-create
 decreases-create l = 8 * length l.tape.now + 6
 
 abbrev pub decreases-key_of : goal.decreases-key_of
-decreases-key_of l = 8 * length l.tape.now
+decreases-key_of l = 8 * length l.tape.now + 1
 
 abbrev pub decreases-or_null : goal.decreases-or_null
 decreases-or_null l = 8 * length l.tape.now + 4
@@ -60,21 +61,21 @@ decreases-transform_jsx_child l = 8 * length l.tape.now
 abbrev pub decreases-behind : goal.decreases-behind
 decreases-behind l = 8 * length l.tape.now
 
-abbrev pub invariant-attrs-loop-next : goal.invariant-attrs-loop-next
-invariant-attrs-loop-next l =
+abbrev pub invariant-attrs-loop-rest : goal.invariant-attrs-loop-rest
+invariant-attrs-loop-rest l =
     (l.i ≤ length l.tape)
-    × (l.key ≤ length l.tape)
+    × KeyWithin (length l.tape) l.key
     × (length l.calls ≡ length l.initial.calls)
     × (length l.notices ≡ length l.initial.notices)
-    × ((f d : ℕ) (a : Attributes) (u : ℕ) → length l.tape < f → attributes_at f l.text d l.tape ≡ done a u
-    → AttributesLeft (context l.text l.brief l.allowed) l.classic d l.tape a u l.initial.calls l.calls l.initial.notices l.notices l.initial.next l.next l.i l.some l.key)
+    × ((f d : ℕ) (a : Attributes) (u : ℕ) → length l.tape < f → attributes_at f l.context.text.now d l.tape ≡ done a u
+    → AttributesLeft (context_of l.context) l.classic d l.tape a u l.initial.calls l.calls l.initial.notices l.notices l.initial.next l.next l.i l.some l.key)
 
-abbrev pub decreases-attrs-loop-next : goal.decreases-attrs-loop-next
-decreases-attrs-loop-next l =
+abbrev pub decreases-attrs-loop-rest : goal.decreases-attrs-loop-rest
+decreases-attrs-loop-rest l =
     length l.tape - l.i
 
-abbrev pub invariant-children-loop-next : goal.invariant-children-loop-next
-invariant-children-loop-next l = KidsLeft (context l.text l.brief l.allowed) l.tape l.initial.calls l.calls l.initial.notices l.notices l.initial.next l.next l.i l.count l.spread
+abbrev pub invariant-children-loop-rest : goal.invariant-children-loop-rest
+invariant-children-loop-rest l = KidsLeft (context_of l.context) l.tape l.rest l.initial.calls l.calls l.initial.notices l.notices l.initial.next l.next l.count l.spread
 
-abbrev pub decreases-children-loop-next : goal.decreases-children-loop-next
-decreases-children-loop-next l = length l.tape - l.i
+abbrev pub decreases-children-loop-rest : goal.decreases-children-loop-rest
+decreases-children-loop-rest l = length l.rest

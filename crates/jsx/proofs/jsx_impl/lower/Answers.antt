@@ -4,5 +4,5 @@ use Rattle.jsx.proofs.jsx_impl.lower.Goals as goal
 
 pub returns : goal.returns
 returns c =
-    λ o u e. root_lowered c.args.text.now c.args.tape.now _ c.args.settings c.brief.result o c.root_head-head.result c.brief.ensures
+    λ o u e. root_lowered c.args.text.now c.args.tape.now _ c.args.settings.now o c.root_head-head.result
     (tail_part c.args.tape.now c.root_head-head.result.used) (c.root_head-head.ensures.head c.args.text.now o u e) c.transform_root.ensures

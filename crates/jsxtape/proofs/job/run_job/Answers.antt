@@ -5,17 +5,17 @@ pub run_root-requires-clause-calls_value : goal.run_root-requires-clause-calls_v
 run_root-requires-clause-calls_value c =
     let a = c.args in
     job_fresh a.job.now a.text.now a.root.now a.notices.now c.requires.notices_room _ _
-    c.open_job-opened.ensures.value c.open_job-opened.ensures.notices_after c.in-Accepted.is
+    c.open_job-opened.ensures.value c.open_job-opened.ensures.notices_after c.in-Ok.is
 
-pub returns-in-Refused : goal.returns-in-Refused
-returns-in-Refused c =
+pub returns-in-Err : goal.returns-in-Err
+returns-in-Err c =
     let a = c.args in
     job_refused a.job.now a.text.now a.root.now a.notices.now c.requires.notices_room _ _
-    c.open_job-opened.ensures.value c.open_job-opened.ensures.notices_after _ _ _ _ c.in-Refused.is
+    c.open_job-opened.ensures.value c.open_job-opened.ensures.notices_after _ _ _ _ c.in-Err.is
 
-pub returns-in-Accepted : goal.returns-in-Accepted
-returns-in-Accepted c =
+pub returns-in-Ok : goal.returns-in-Ok
+returns-in-Ok c =
     let a = c.args in
     job_opened a.job.now a.text.now a.root.now a.notices.now c.requires.notices_room _ _
-    c.open_job-opened.ensures.value c.open_job-opened.ensures.notices_after _ _ _ _ c.in-Accepted.is
+    c.open_job-opened.ensures.value c.open_job-opened.ensures.notices_after _ _ _ _ c.in-Ok.is
     c.run_root.ensures

@@ -1,87 +1,48 @@
 -- A list up to the first root that is refused: `Row` (proofs/Listed) goes from root to root, and text and state are in order behind each.
-use mathlib.Core.Path.{refl, sym, ap, ◌∙◌}
-use native.Mathlib.Omega.{arith}
-use Rattle.text.proofs.Lists.{told}
+use Rattle.std.proofs.Common.{◌≡◌, Some, refl, sym, ap, ◌∙◌}
 use Rattle.definitions.specs.declared.state.Stepped.{Stepped}
-use Rattle.lowering.specs.declared.series.Ahead.TheVariants.{Root}
+use Rattle.lowering.specs.Steps.{stepped}
 use Rattle.lowering.specs.RootLists.{Stands}
 use Rattle.lowering.proofs.Judging.{going_after}
-use Rattle.lowering.proofs.Listed.{begun, root_short, one_more, row_all, row_end, row_refused, row_root}
+use Rattle.lowering.proofs.Listed.{begun, one_more, row_all, row_end, row_refused, row_root}
 use Rattle.lowering.proofs.series.lower_in_turn.Goals as goal
-use Rattle.lowering.proofs.series.lower_in_turn.Goals.{In-Root}
+use Rattle.lowering.proofs.series.lower_in_turn.Goals.{In-Some}
 
-pub loop-answer-init : goal.loop-answer-init
-loop-answer-init c = (refl, refl, row_all _ _ _, c.requires)
-
-pub next_root-requires : goal.next_root-requires
-next_root-requires c = c.loop-answer.invariant.2.within
-
-pub shape_of-calls-in-End : goal.shape_of-calls-in-End
-shape_of-calls-in-End c = c.loop-answer.invariant.0
-
-pub shape_of-notices-in-End : goal.shape_of-notices-in-End
-shape_of-notices-in-End c = c.loop-answer.invariant.1
-
-pub returns-in-End : goal.returns-in-End
-returns-in-End c =
-    let e = row_end c.loop-answer.invariant.2 c.next_root.ensures.roots_by c.in-End.is in
-    sym (e ∙ λ ι.
-    record {
-      answer = sym c.list_end-answer.ensures ι;
-      world = begun c.loop-answer.last c.loop-answer.calls c.loop-answer.notices;
-      taken = c.loop-answer.taken;
-    })
+pub loop-root-init : goal.loop-root-init
+loop-root-init c = (refl, refl, row_all _ _ _, c.requires)
 
 -- the root that is ahead stands on the list
-standing : (c : In-Root)
-    → Stands c.args.roots.now c.loop-answer.at
-    (Root c.in-Root.start c.in-Root.end)
-standing c = rw c.in-Root.is at c.next_root.ensures.stands
+ahead : (c : In-Some) → c.next_root.result ≡ Some (c.in-Some.root, c.in-Some.behind)
+ahead c = cc
 
-pub slice_bounds-lower_tested-count : goal.slice_bounds-lower_tested-count
-slice_bounds-lower_tested-count c = (standing (goal.at.slice_bounds-lower_tested-count c).In-Root).1
+standing : (c : In-Some) → Stands c.loop-root.rest.now (Some (c.in-Some.root, c.in-Some.behind))
+standing c = rw (ahead c) at c.next_root.ensures.stands
 
-pub slice_bounds-lower_tested-start : goal.slice_bounds-lower_tested-start
-slice_bounds-lower_tested-start c = omega (arith, (standing (goal.at.slice_bounds-lower_tested-start c).In-Root).1)
-
-pub slice_bounds-lower_tested-end : goal.slice_bounds-lower_tested-end
-slice_bounds-lower_tested-end c = omega (arith, (standing (goal.at.slice_bounds-lower_tested-end c).In-Root).2)
-
-pub lower_tested-stepped-requires : goal.lower_tested-stepped-requires
-lower_tested-stepped-requires c = record {
-  root_len_bound = root_short _ _ _ _ (standing (goal.at.lower_tested-stepped-requires c).In-Root);
-  going = c.loop-answer.invariant.3;
-}
-
-pub shape_of-calls-in-Refused : goal.shape_of-calls-in-Refused
-shape_of-calls-in-Refused c =
-    c.lower_tested-stepped.auto.calls ∙ c.loop-answer.invariant.0
-
-pub shape_of-notices-in-Refused : goal.shape_of-notices-in-Refused
-shape_of-notices-in-Refused c =
-    c.lower_tested-stepped.auto.notices ∙ c.loop-answer.invariant.1
-
-pub returns-in-Refused : goal.returns-in-Refused
-returns-in-Refused c =
-    let o = c.lower_tested-stepped.ensures in
-    sym
-    (row_refused c.loop-answer.invariant.2 c.next_root.ensures.roots_by c.in-Root.is c.next_root.ensures.stands
-    (told (ap (λ (t : Stepped). t.answer) o.answered) c.in-Refused.is) (one_more _ _ _ o.answered o.called o.noticed))
-
-pub overflow_add-taken : goal.overflow_add-taken
-overflow_add-taken c =
-    omega (arith, c.loop-answer.invariant.2.counted, standing (goal.at.overflow_add-taken c).In-Root)
-
-pub loop-answer-smaller : goal.loop-answer-smaller
-loop-answer-smaller c =
-    omega (arith, standing (goal.at.loop-answer-smaller c).In-Root)
-
-pub loop-answer-preserved : goal.loop-answer-preserved
-loop-answer-preserved c =
-    let o = c.lower_tested-stepped.ensures in (
-      c.lower_tested-stepped.auto.calls ∙ c.loop-answer.invariant.0,
-      c.lower_tested-stepped.auto.notices ∙ c.loop-answer.invariant.1,
-      row_root c.loop-answer.invariant.2 c.next_root.ensures.roots_by c.in-Root.is c.next_root.ensures.stands
-          (told (ap (λ (t : Stepped). t.answer) o.answered) c.in-Accepted.is) (one_more _ _ _ o.answered o.called o.noticed),
-      going_after _ _ _ _ _ o c.in-Accepted.is,
+pub loop-root-preserved : goal.loop-root-preserved
+unfolding stepped
+loop-root-preserved c =
+    let o = rw c.in-Ok.is at c.lower_tested.ensures in (
+      c.lower_tested.auto.calls ∙ c.loop-root.invariant.0,
+      c.lower_tested.auto.notices ∙ c.loop-root.invariant.1,
+      row_root c.loop-root.invariant.2 c.next_root.ensures.roots_by (ahead (goal.at.loop-root-preserved c).In-Some) c.next_root.ensures.stands
+          (ap (λ (t : Stepped). t.answer) (sym o.answered)) (one_more _ _ _ o.answered o.called o.noticed),
+      going_after _ _ _ _ _ o refl,
     )
+
+pub returns-in-Err : goal.returns-in-Err
+unfolding stepped
+returns-in-Err c =
+    let o = rw c.in-Err.is at c.lower_tested.ensures in
+    sym
+    (row_refused c.loop-root.invariant.2 c.next_root.ensures.roots_by (ahead (goal.at.returns-in-Err c).In-Some) c.next_root.ensures.stands
+    (ap (λ (t : Stepped). t.answer) (sym o.answered)) (one_more _ _ _ o.answered o.called o.noticed))
+
+pub returns : goal.returns
+returns c =
+    let e = row_end c.loop-root.invariant.2 c.next_root.ensures.roots_by c.in_default.is in
+    sym (e ∙ λ ι.
+    record {
+      answer = sym c.list_end.ensures ι;
+      world = begun c.loop-root.last c.loop-root.calls c.loop-root.notices;
+      taken = c.loop-root.taken;
+    })

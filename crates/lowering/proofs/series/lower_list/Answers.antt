@@ -11,20 +11,20 @@ returns-then-text-gt-MAX_LENGTH c =
 pub lower_list_if_unforged-requires : goal.lower_list_if_unforged-requires
 lower_list_if_unforged-requires c = record {
   text_len_bound = c.if-text-gt-MAX_LENGTH.false;
-  text_value = told c.first_ill_formed.ensures c.in-Nothing.is;
+  text_value = told c.first_ill_formed.ensures c.in_default.is;
 }
 
-pub returns-in-At : goal.returns-in-At
-returns-in-At c =
+pub returns-in-Some : goal.returns-in-Some
+returns-in-Some c =
     let a = c.args in
     let it =
     run_is _ _ _ _ _
-    (list_ill a.text.now a.state a.calls.now a.notices.now a.roots.now c.in-At.place c.if-text-gt-MAX_LENGTH.false
-    (told c.first_ill_formed.ensures c.in-At.is) c.list_refused-in-At.ensures)
+    (list_ill a.text.now a.state a.calls.now a.notices.now a.roots.now c.in-Some.place c.if-text-gt-MAX_LENGTH.false
+    (told c.first_ill_formed.ensures c.in-Some.is) c.list_refused-in-Some.ensures)
     in
     record { answer_value = it.0; taken_value = it.1; left = it.2; left_by_series = it.3; kept = it.4 }
 
-pub returns-in-Nothing : goal.returns-in-Nothing
-returns-in-Nothing c =
+pub returns : goal.returns
+returns c =
     let it = run_is _ _ _ _ _ c.lower_list_if_unforged.ensures in
     record { answer_value = it.0; taken_value = it.1; left = it.2; left_by_series = it.3; kept = it.4 }

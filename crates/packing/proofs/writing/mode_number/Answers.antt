@@ -1,14 +1,16 @@
+use mathlib.Core.Path.{◌≡◌, refl}
+use denote.Enum.Declared.{tag_of}
+use Rattle.definitions.specs.contracts.options.Mode.{the_type}
+use Rattle.definitions.specs.declared.options.Mode.{Mode}
+use Rattle.definitions.specs.declared.options.Mode.TheVariants.{Module, Script, Classic}
 use Rattle.packing.specs.Packed.{mode_number}
 use Rattle.packing.proofs.writing.mode_number.Goals as goal
 
-pub returns-in-Module : goal.returns-in-Module
+tag_is : (m : Mode) → tag_of the_type m ≡ mode_number m
 unfolding mode_number
-returns-in-Module c = rw c.in-Module.is
+tag_is Module = refl
+tag_is Script = refl
+tag_is Classic = refl
 
-pub returns-in-Script : goal.returns-in-Script
-unfolding mode_number
-returns-in-Script c = rw c.in-Script.is
-
-pub returns-in-Classic : goal.returns-in-Classic
-unfolding mode_number
-returns-in-Classic c = rw c.in-Classic.is
+pub returns : goal.returns
+returns c = tag_is c.args.mode

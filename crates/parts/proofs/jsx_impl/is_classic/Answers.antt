@@ -1,15 +1,16 @@
+use Rattle.std.proofs.Common.{◌≡◌, Bool}
+use denote.Enum.Bare.{sameb}
+use Rattle.definitions.specs.declared.options.Mode.{Mode}
+use Rattle.definitions.specs.declared.options.Mode.TheVariants.{Module, Script, Classic}
+use Rattle.definitions.specs.contracts.options.Mode.{the_type}
 use Rattle.definitions.specs.Lowering.{is_classic}
-use mathlib.Core.Path.{refl}
 use Rattle.parts.proofs.jsx_impl.is_classic.Goals as goal
 
-pub returns-in-Module : goal.returns-in-Module
+by : (m : Mode) {b : Bool} → b ≡ sameb the_type m Classic → b ≡ is_classic m
 unfolding is_classic
-returns-in-Module c = rw c.in-Module.is refl
+by Module e = e
+by Script e = e
+by Classic e = e
 
-pub returns-in-Script : goal.returns-in-Script
-unfolding is_classic
-returns-in-Script c = rw c.in-Script.is refl
-
-pub returns-in-Classic : goal.returns-in-Classic
-unfolding is_classic
-returns-in-Classic c = rw c.in-Classic.is refl
+pub returns : goal.returns
+returns c = by c.args.mode c.eq.ensures

@@ -1,8 +1,16 @@
+use Rattle.std.proofs.Common.{◌≡◌, Bool, true, false, cond, refl, sym, ◌∙◌, arith}
+use mir.Val.{bool_byte}
 use Rattle.parts.proofs.Noticing.{text_called_at}
-use mathlib.Core.Path.{sym, ◌∙◌}
 use Rattle.parts.proofs.jsx_impl.text_lines.Goals as goal
+
+counts : (b : Bool) → bool_byte b ≡ cond b 1 0
+counts true = refl
+counts false = refl
 
 pub returns-clause-text_written : goal.returns-clause-text_written
 returns-clause-text_written c =
     let texted = c.fixup_whitespace_and_decode_entities-texted.ensures in
-    record { counted = c.kept.ensures ∙ sym texted.survives; wrote = text_called_at _ c.capped-at.ensures.1 texted.wrote }
+    record {
+      counted = c.from.ensures ∙ counts _ ∙ sym texted.survives;
+      wrote = text_called_at _ (λ h. omega (arith, c.min-at.ensures)) texted.wrote;
+    }

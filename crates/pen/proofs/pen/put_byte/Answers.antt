@@ -1,4 +1,4 @@
-use Rattle.std.proofs.Common.{ℕ, [], ◌∷◌, refl, ap}
+use Rattle.std.proofs.Common.{ℕ, [], ◌∷◌, refl, ap, sym}
 use Rattle.definitions.specs.Store.{bound_by, numbered}
 use Rattle.definitions.specs.Calls.{bytes_of}
 use Rattle.pen.proofs.Commands.{called_plain}
@@ -6,4 +6,4 @@ use Rattle.pen.proofs.pen.put_byte.Goals as goal
 
 pub returns : goal.returns
 unfolding bound_by numbered bytes_of
-returns c = λ k e. called_plain (λ js. refl) (λ js. ap (λ (b : ℕ). b ∷ c.args.n ∷ []) e) c.put_two.ensures
+returns c = called_plain (λ js. refl) (λ js. ap (λ (b : ℕ). b ∷ c.args.n ∷ []) (sym c.code.ensures)) c.put_two.ensures

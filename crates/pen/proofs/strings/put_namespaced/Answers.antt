@@ -11,5 +11,5 @@ returns c = let short : length c.args.calls.now ≤ 2 ^ 63 = omega arith in
     (called_then short
     (called_then short
     (called_then short
-    (called_then short (c.put_bare-begun.ensures call.string_begin refl) c.put_piece-front.ensures) (c.put_bare-parted.ensures call.colon refl)) c.put_piece-back.ensures)
-    (c.put_bare.ensures call.string_end refl))
+    (called_then short c.put_bare-begun.ensures c.put_piece-front.ensures) c.put_bare-parted.ensures) c.put_piece-back.ensures)
+    c.put_bare.ensures)

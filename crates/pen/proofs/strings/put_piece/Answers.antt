@@ -9,4 +9,4 @@ returns-then-span-eq0 c = rw (eq-eqb _ 0 c.if-span-eq0.true) (called_none _ _)
 
 pub returns : goal.returns
 unfolding span_code
-returns c = rw (ne_eqb _ 0 c.if-span-eq0.false) (c.put_spanned.ensures call.piece refl)
+returns c = rw (ne_eqb _ 0 c.if-span-eq0.false) c.put_spanned.ensures

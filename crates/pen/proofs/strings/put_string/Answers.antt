@@ -6,5 +6,5 @@ use Rattle.pen.proofs.strings.put_string.Goals as goal
 
 pub returns : goal.returns
 unfolding bare_code
-returns c = called_then (omega arith) (c.put_bare-begun.ensures call.string_begin refl)
-    (called_then (omega arith) c.put_piece-inside.ensures (c.put_bare.ensures call.string_end refl))
+returns c = called_then (omega arith) c.put_bare-begun.ensures
+    (called_then (omega arith) c.put_piece-inside.ensures c.put_bare.ensures)

@@ -1,11 +1,14 @@
 use native.Mathlib.Omega.{arith}
-use lib.ListN.{take}
 use Rattle.tape.proofs.Targets.{wrote_then}
-use Rattle.records.proofs.Tape.{part_group}
+use Rattle.definitions.specs.Records.{entries_in}
+use Rattle.records.proofs.Tape.{entries_next}
 use Rattle.records.proofs.record_tape.put_group.Goals as goal
 
-pub returns : goal.returns
-returns c =
-    let a = c.args in
-    rw (← part_group a.source (take a.n a.records))
-    (wrote_then (omega arith) c.put_two-next.ensures c.put_part.ensures)
+pub loop-record-init : goal.loop-record-init
+unfolding entries_in
+loop-record-init c = c.put_two-end.ensures
+
+pub loop-record-preserved : goal.loop-record-preserved
+loop-record-preserved c =
+    rw (entries_next c.args.source c.args.records.now c.loop-record.record-index (omega arith)) at
+    (wrote_then (omega arith) c.loop-record.invariant c.put_in_group-end.ensures)

@@ -8,7 +8,7 @@ use Rattle.records.proofs.record_tape.put_groups.Goals as goal
 pub returns-in-Empty : goal.returns-in-Empty
 unfolding group_tape sources_of
 returns-in-Empty c =
-    rw c.in-Empty.is (wrote_nothing c.args.out.now c.args.at c.requires.1)
+    rw c.in-Empty.is (wrote_nothing c.args.out.now c.args.at c.requires)
 
 pub returns-in-One : goal.returns-in-One
 unfolding group_tape sources_of

@@ -1,37 +1,46 @@
-use Rattle.root_check.proofs.Entry.{root_heritage, root_wrong, root_cut, root_bad}
+use Rattle.root_check.proofs.Entry.{root_refused, root_more, root_all, root_unread}
+use Rattle.root_check.proofs.Commands.{command_read, command_unread}
 use Rattle.root_check.proofs.Behind.{part_reach}
 use Rattle.root_check.proofs.Readings.{scopes_reads}
-use mathlib.Core.Bool.{false}
 use Rattle.commands.proofs.Lengths.{heritage_fits}
-use Rattle.text.proofs.Lists.{told}
+use Rattle.std.specs.Prelude.{Err}
+use Rattle.std.proofs.Common.{rules, false}
+use mathlib.Core.Path.{◌≡◌, refl}
 use native.Mathlib.Omega.{arith}
 use Rattle.root_check.proofs.check.check_root.Goals as goal
 
+pub returns-in_err-legible : goal.returns-in_err-legible
+returns-in_err-legible c =
+    let k = command_unread _ c.heritage_command_at.ensures c.legible.ensures c.in_err-legible.was in
+    let e : c.from_residual.result ≡ Err c.in_err-legible.field-0.0 = search rules in
+    rw (e, k.2) (root_unread _ _ k.1)
+
 pub slice_bounds-check_scopes-count : goal.slice_bounds-check_scopes-count
-slice_bounds-check_scopes-count c = omega (arith, heritage_fits _ (told c.heritage_command_at-command.ensures c.in-Heritage.is))
+slice_bounds-check_scopes-count c = omega (arith, heritage_fits _ (command_read _ c.heritage_command_at.ensures c.legible.ensures c.in_ok-legible.was refl))
 
 pub slice_bounds-check_scopes-start : goal.slice_bounds-check_scopes-start
-slice_bounds-check_scopes-start c = omega (arith, heritage_fits _ (told c.heritage_command_at-command.ensures c.in-Heritage.is))
+slice_bounds-check_scopes-start c = omega (arith, heritage_fits _ (command_read _ c.heritage_command_at.ensures c.legible.ensures c.in_ok-legible.was refl))
 
 pub further-requires : goal.further-requires
 further-requires c =
     omega (
       arith,
       part_reach (λ f t. scopes_reads f c.args.text.now false t) 2 c.args.tape.now
-          (heritage_fits _ (told c.heritage_command_at-command.ensures c.in-Heritage.is))
-          c.check_scopes.ensures,
+          (heritage_fits _ (command_read _ c.heritage_command_at.ensures c.legible.ensures c.in_ok-legible.was refl))
+          c.check_scopes-scopes.ensures,
     )
 
-pub returns-in-Heritage : goal.returns-in-Heritage
-returns-in-Heritage c =
-    root_heritage _ _ _ (told c.heritage_command_at-command.ensures c.in-Heritage.is)
-    c.check_scopes.ensures c.further.ensures c.close.ensures
+pub returns-in_err-taken : goal.returns-in_err-taken
+returns-in_err-taken c =
+    let e : c.from_residual-in_err-taken.result ≡ Err c.in_err-taken.field-0.0 = search rules in
+    rw e (root_refused _ _ (command_read _ c.heritage_command_at.ensures c.legible.ensures c.in_ok-legible.was refl) c.check_scopes-scopes.ensures c.further.ensures c.in_err-taken.was)
 
-pub returns-in-Wrong : goal.returns-in-Wrong
-returns-in-Wrong c = root_wrong _ _ (told c.heritage_command_at-command.ensures c.in-Wrong.is)
+pub returns-then-taken-tape : goal.returns-then-taken-tape
+returns-then-taken-tape c =
+    root_more _ _ (command_read _ c.heritage_command_at.ensures c.legible.ensures c.in_ok-legible.was refl) c.check_scopes-scopes.ensures c.further.ensures c.in_ok-taken.was
+    c.if-taken-tape.true
 
-pub returns-in-Cut : goal.returns-in-Cut
-returns-in-Cut c = root_cut _ _ (told c.heritage_command_at-command.ensures c.in-Cut.is)
-
-pub returns-in-Bad : goal.returns-in-Bad
-returns-in-Bad c = root_bad _ _ (told c.heritage_command_at-command.ensures c.in-Bad.is)
+pub returns : goal.returns
+returns c =
+    root_all _ _ (command_read _ c.heritage_command_at.ensures c.legible.ensures c.in_ok-legible.was refl) c.check_scopes-scopes.ensures c.further.ensures c.in_ok-taken.was
+    c.if-taken-tape.false

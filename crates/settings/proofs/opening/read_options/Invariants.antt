@@ -1,10 +1,9 @@
-use Prim.Native.Nat.{◌≤◌, ◌-◌}
-use lib.ListN.{length}
+use Rattle.std.proofs.Common.{◌≤◌, ◌-◌, length}
 use Rattle.settings.proofs.Commands.{Reads}
 use Rattle.settings.proofs.opening.read_options.Given as goal
 
-abbrev pub invariant-loop-fault : goal.invariant-loop-fault
-invariant-loop-fault l = (l.i ≤ length l.tape) × Reads l.text l.tape l.n l.i l.last l.options
+abbrev pub invariant-loop-next : goal.invariant-loop-next
+invariant-loop-next l = record { inside : l.front ≤ length l.tape; reads : Reads l.text l.tape l.n l.front l.last l.options }
 
-abbrev pub decreases-loop-fault : goal.decreases-loop-fault
-decreases-loop-fault l = length l.tape - l.i
+abbrev pub decreases-loop-next : goal.decreases-loop-next
+decreases-loop-next l = length l.tape - l.front

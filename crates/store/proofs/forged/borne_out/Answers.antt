@@ -1,10 +1,10 @@
 use Rattle.definitions.specs.States.{borne_out}
 use Rattle.store.proofs.forged.borne_out.Goals as goal
 
-pub returns-in-Absent : goal.returns-in-Absent
+pub returns-in-None : goal.returns-in-None
 unfolding borne_out
-returns-in-Absent c = rw c.in-Absent.is
+returns-in-None c = rw c.in-None.is
 
-pub returns-in-Present : goal.returns-in-Present
+pub returns-in-Some : goal.returns-in-Some
 unfolding borne_out
-returns-in-Present c = rw (c.in-Present.is, c.in_order.ensures, c.span_bounds.ensures)
+returns-in-Some c = rw (c.in-Some.is, c.in_order.ensures, c.span_bounds.ensures)

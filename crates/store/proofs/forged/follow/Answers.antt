@@ -1,29 +1,22 @@
-use Prim.Native.Nat.{◌≤◌}
 use native.Mathlib.Omega.{arith}
-use mathlib.Core.Path.{◌≡◌, refl, sym, ◌∙◌}
-use lib.ListN.{length, take}
-use Rattle.definitions.specs.States.{imports}
+use mathlib.Core.Path.{refl, sym, ◌∙◌}
 use Rattle.store.proofs.Following.{follows_not, follows_on, follows_all}
 use Rattle.store.proofs.forged.follow.Goals as goal
 
 pub loop-i-init : goal.loop-i-init
-loop-i-init c = (omega arith, refl)
+loop-i-init c = refl
 
 pub returns-then-not-numbered-repeated : goal.returns-then-not-numbered-repeated
 returns-then-not-numbered-repeated c =
-    let l : c.args.n ≤ length c.args.records = omega arith in
-    let next = follows_not c.args.settings c.args.records c.loop-i.i c.args.n (omega arith) l _ _ c.number_in.ensures
-    c.can_bind.ensures c.if-not-numbered-repeated.true in
-    sym (c.loop-i.invariant.1 ∙ next)
+    sym (c.loop-i.invariant
+    ∙ follows_not c.args.settings c.args.records.now c.loop-i.i (omega arith) _ _ _ c.is_some-repeated.ensures c.number_in.ensures c.can_bind.ensures
+    c.if-not-numbered-repeated.true)
 
 pub loop-i-preserved : goal.loop-i-preserved
 loop-i-preserved c =
-    let l : c.args.n ≤ length c.args.records = omega arith in
-    let next = follows_on c.args.settings c.args.records c.loop-i.i c.args.n (omega arith) l _ _ c.number_in.ensures
-    c.can_bind.ensures c.if-not-numbered-repeated.false in
-    (omega arith, c.loop-i.invariant.1 ∙ next)
+    c.loop-i.invariant
+    ∙ follows_on c.args.settings c.args.records.now c.loop-i.i (omega arith) _ _ _ c.is_some-repeated.ensures c.number_in.ensures c.can_bind.ensures
+    c.if-not-numbered-repeated.false
 
 pub returns : goal.returns
-returns c =
-    let e : c.loop-i.i ≡ c.args.n = omega arith in
-    sym (c.loop-i.invariant.1 ∙ rw e (follows_all c.args.settings (imports (take c.args.n c.args.records)) c.args.n c.args.records))
+returns c = sym (c.loop-i.invariant ∙ follows_all c.args.settings _ _ c.args.records.now c.loop-i.i (omega arith))

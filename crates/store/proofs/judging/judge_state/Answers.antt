@@ -9,29 +9,29 @@ pub returns-then-text-gt-MAX_LENGTH : goal.returns-then-text-gt-MAX_LENGTH
 unfolding judge_writing refuse refuse_at behind
 returns-then-text-gt-MAX_LENGTH c = λ j. rw (lt-ltb _ _ c.if-text-gt-MAX_LENGTH.true)
 
-pub returns-then-is_sound : goal.returns-then-is_sound
+pub returns : goal.returns
 unfolding judge_writing refuse refuse_at behind
-returns-then-is_sound c =
+returns c =
     λ j.
     rw (
       le-ltb _ _ c.if-text-gt-MAX_LENGTH.false,
-      told c.first_ill_formed.ensures c.in-Nothing.is,
+      told c.first_ill_formed.ensures c.in_default.is,
       told
-          c.is_sound.ensures c.if-is_sound.true,
+          c.is_sound.ensures c.if-not-is_sound.false,
     )
 
-pub returns-in-At : goal.returns-in-At
+pub returns-in-Some : goal.returns-in-Some
 unfolding judge_writing refuse refuse_at behind
-returns-in-At c =
-    λ j. rw (le-ltb _ _ c.if-text-gt-MAX_LENGTH.false, told c.first_ill_formed.ensures c.in-At.is)
+returns-in-Some c =
+    λ j. rw (le-ltb _ _ c.if-text-gt-MAX_LENGTH.false, told c.first_ill_formed.ensures c.in-Some.is)
 
-pub returns-else-is_sound : goal.returns-else-is_sound
+pub returns-then-not-is_sound : goal.returns-then-not-is_sound
 unfolding judge_writing refuse refuse_at behind
-returns-else-is_sound c =
+returns-then-not-is_sound c =
     λ j.
     rw (
       le-ltb _ _ c.if-text-gt-MAX_LENGTH.false,
-      told c.first_ill_formed.ensures c.in-Nothing.is,
+      told c.first_ill_formed.ensures c.in_default.is,
       told
-          c.is_sound.ensures c.if-is_sound.false,
+          c.is_sound.ensures c.if-not-is_sound.true,
     )

@@ -1,20 +1,11 @@
--- `text::bytes::is_ascii` meets its contract. The loop's invariant: where `all` is below 80, the search from place i on has the answer. Assumes nothing.
-use mathlib.Core.Path.{refl, ◌∙◌}
-use lib.ListN.{get_or}
-use borrow.Author.Tests.{lt-leb, ltb-true}
-use borrow.Author.Rules.{rules}
-use Rattle.text.proofs.Searching.{find_step, find_end, or_below}
+-- `text::bytes::is_ascii` meets its contract. Assumes nothing.
+use Rattle.std.proofs.Common.{◌≡◌, bit_or, rules}
+use Rattle.std.specs.List.{fold}
+use borrow.Author.Tests.{ltb-true}
+use Rattle.text.proofs.Searching.{fold_below}
 use Rattle.text.proofs.bytes.is_ascii.Goals as goal
 
-pub loop-i-init : goal.loop-i-init
-loop-i-init c = (search rules, λ h. refl)
-
-pub loop-i-preserved : goal.loop-i-preserved
-loop-i-preserved c = (
-  search rules,
-  λ h. let o = or_below c.loop-i.all (get_or c.args.s.now c.loop-i.i 0) h in
-      c.loop-i.invariant.1 o.0 ∙ find_step _ _ _ c.loop-i-test.true (lt-leb _ _ o.1),
-)
-
 pub returns : goal.returns
-returns c = λ e. c.loop-i.invariant.1 (ltb-true _ _ e) ∙ find_end _ _ _ c.loop-i-test.false
+returns c =
+    let e : c.fold.result ≡ fold (λ all x. bit_or all x) 0 c.args.s.now = search rules in
+    λ h. (fold_below c.args.s.now 0 0 (rw e at (ltb-true c.fold.result 0x80 h))).1

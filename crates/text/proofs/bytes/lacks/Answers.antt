@@ -1,19 +1,11 @@
--- `text::bytes::lacks` meets its contract. The loop's invariant: where `all` is true, the search from place i on has the answer. Assumes nothing.
-use mathlib.Core.Path.{refl, ◌∙◌}
-use lib.ListN.{get_or}
-use borrow.Author.Rules.{rules}
-use Rattle.text.proofs.Searching.{find_step, find_end, both_lack}
+-- `text::bytes::lacks` meets its contract. Assumes nothing.
+use Rattle.std.proofs.Common.{◌≡◌, true, ◌&&◌, not, eqb, arith}
+use Rattle.std.proofs.lemmas.Grind.{common_steps}
+use Rattle.std.specs.List.{fold}
+use Rattle.text.proofs.Searching.{fold_lacks}
 use Rattle.text.proofs.bytes.lacks.Goals as goal
 
-pub loop-i-init : goal.loop-i-init
-loop-i-init c = (search rules, λ h. refl)
-
-pub loop-i-preserved : goal.loop-i-preserved
-loop-i-preserved c = (
-  search rules,
-  λ h. let o = both_lack c.loop-i.all (get_or c.args.s.now c.loop-i.i 0) c.args.b h in
-      c.loop-i.invariant.1 o.0 ∙ find_step _ _ _ c.loop-i-test.true o.1,
-)
-
 pub returns : goal.returns
-returns c = λ e. c.loop-i.invariant.1 e ∙ find_end _ _ _ c.loop-i-test.false
+returns c =
+    let e : c.fold.result ≡ fold (λ all x. all && not (eqb x c.args.b)) true c.args.s.now = grind (arith, common_steps) in
+    λ h. (fold_lacks c.args.b c.args.s.now 0 true (rw e at h)).1

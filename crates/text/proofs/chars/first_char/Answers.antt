@@ -1,22 +1,26 @@
 -- `text::chars::first_char` meets its contract. Assumes nothing.
-use Rattle.text.proofs.Decoding.{char_none, char_one, char_two, char_three, char_four}
+use Rattle.std.proofs.Common.{◌≡◌, ◌∙◌, Some, None, arith, length-take}
+use Rattle.text.specs.Utf8.{nonzero, width}
+use Rattle.text.specs.Chars.{char_of, front_code}
+use Rattle.text.proofs.Lists.{told}
+use Rattle.text.proofs.Rows.{some_width}
+use Rattle.text.proofs.Sequences.{width_le}
 use Rattle.text.proofs.chars.first_char.Goals as goal
 
-pub returns-then-n-eq0 : goal.returns-then-n-eq0
-returns-then-n-eq0 c = char_none _ _ c.width-n.ensures c.if-n-eq0.true
+pub returns-in_err-width : goal.returns-in_err-width
+unfolding char_of
+returns-in_err-width c =
+    let e : nonzero (width c.args.s.now) ≡ None = told c.width.ensures c.in_err-width.was in
+    c.from_residual.ensures ∙ rw e
 
-pub returns-then-n-eq1 : goal.returns-then-n-eq1
-returns-then-n-eq1 c = char_one _ _ c.width-n.ensures c.if-n-eq1.true _ c.over.ensures.0
-
-pub returns-then-n-eq2 : goal.returns-then-n-eq2
-returns-then-n-eq2 c =
-    char_two _ _ c.width-n.ensures c.if-n-eq2.true _ _ c.over-then-n-eq2.ensures.0 c.over-then-n-eq2-2.ensures.0
-
-pub returns-then-n-eq3 : goal.returns-then-n-eq3
-returns-then-n-eq3 c =
-    char_three _ _ c.width-n.ensures c.if-n-eq3.true _ _ _ c.over-then-n-eq3.ensures.0 c.over-then-n-eq3-2.ensures.0 c.over-then-n-eq3-3.ensures.0
+pub slice_bounds-code_of-end : goal.slice_bounds-code_of-end
+slice_bounds-code_of-end c =
+    let e = some_width _ _ (told c.width.ensures c.in_ok-width.was) in
+    omega (arith, e.0, width_le c.args.s.now, length-take c.in_ok-width.width c.args.s.now)
 
 pub returns : goal.returns
+unfolding char_of front_code
 returns c =
-    char_four _ _ c.width-n.ensures c.if-n-eq0.false c.if-n-eq1.false c.if-n-eq2.false c.if-n-eq3.false _ _ _ _
-    c.over-2.ensures.0 c.over-3.ensures.0 c.over-4.ensures.0 c.over-5.ensures.0
+    let e : nonzero (width c.args.s.now) ≡ Some c.in_ok-width.width = told c.width.ensures c.in_ok-width.was in
+    let w : width c.args.s.now ≡ c.in_ok-width.width = (some_width _ _ e).0 in
+    rw (e, w, ← c.code_of.ensures)

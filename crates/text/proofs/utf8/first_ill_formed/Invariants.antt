@@ -4,8 +4,8 @@ use lib.ListN.{length}
 use Rattle.text.proofs.Walking.{Come}
 use Rattle.text.proofs.utf8.first_ill_formed.Given as goal
 
-abbrev pub invariant-loop-i : goal.invariant-loop-i
-invariant-loop-i l = Come l.s l.i
+abbrev pub invariant-loop-at : goal.invariant-loop-at
+invariant-loop-at l = Come l.s l.i
 
-abbrev pub decreases-loop-i : goal.decreases-loop-i
-decreases-loop-i l = length l.s - l.i
+abbrev pub decreases-loop-at : goal.decreases-loop-at
+decreases-loop-at l = length l.s - l.i

