@@ -19,7 +19,8 @@ NAMES = "# names: "
 LETTER = r"[\w'\-]"
 
 
-METHOD = re.compile(r"^    (?:pub )?fn (\w+)", re.M)
+TYPE = re.compile(r"^(?:pub )?(?:struct|enum) (\w+)", re.M)
+VARIANT = re.compile(r"\s*\w+ = \w+,?$")
 PASSED = re.compile(r"\A\s*\{\n    [^\n]*(?:\.|::)(\w+)\([^()\n]*\)\n\}\n")
 
 
@@ -53,44 +54,36 @@ class Edit:
                 return None
             made[name] = text.replace(old, new)
         if self.names:
-            concerned = self.concerns(every)
-            for function in concerned:
+            for function in self.concerns(every):
                 for name in function.proofs():
                     made[name] = self.renamed(made.get(name) or texts.get(name) or self.read(name), function)
-            for name in self.proofs_of_methods() if not concerned else []:
-                made[name] = self.renamed(made.get(name) or texts.get(name) or self.read(name), None)
         return made
 
-    def methods(self):
-        """The methods of `impl` blocks whose bodies it changes, by their names."""
+    def types(self):
+        """The types whose declarations it changes."""
         found = set()
         for name, old, _ in self.pairs:
             text = self.read(name) if name.startswith("src/") else ""
-            before = text[:text.index(old)] if old in text else ""
-            heads = list(METHOD.finditer(before, before.rfind("\nimpl") + 1)) if "\nimpl" in before else []
-            if heads and "\n}\n" not in before[heads[-1].start():]:
-                found.add(heads[-1][1])
+            head = list(TYPE.finditer(text, 0, text.find(old) + len(old))) if old in text else []
+            if head and "\n}\n" not in text[head[-1].start():text.index(old)]:
+                found.add(head[-1][1])
         return found
-
-    def proofs_of_methods(self):
-        """The proof files of those methods, below the crate's folder."""
-        folder = os.path.join(ROOT, "crates", self.crate)
-        return [os.path.relpath(os.path.join(at, name), folder) for at, _, files in os.walk(os.path.join(folder, "proofs"))
-                if os.path.basename(at) in self.methods() for name in files]
 
     def renamed(self, text, function):
         """The text of a proof of the function with the new names: of functions that call one another only what answers this one's goals."""
         word = re.compile(rf"(?<!{LETTER})(?:{'|'.join(map(re.escape, self.names))})(?!{LETTER})")
         parts = text.split("\n\n")
-        return "\n\n".join(word.sub(lambda found: self.names[found[0]], part) if not function or function.has(part) else part for part in parts)
+        return "\n\n".join(word.sub(lambda found: self.names[found[0]], part) if function.has(part) else part for part in parts)
 
     def concerns(self, every):
-        """The functions whose bodies it changes; none where it changes a definition, a contract or a type."""
+        """The functions whose bodies it changes, or whose number of an enum's variant; none where it changes a definition, a contract or a type otherwise."""
         touched = set()
         for name, old, _ in self.pairs:
             if not name.startswith("src/"):
                 return set()
             text = self.read(name)
+            if touched and old not in text:
+                continue  # where an earlier pair changed the text already
             at = text.index(old)
             here = [f for f in every if f.file == name[len("src/"):] and f.start <= at < f.end]
             if here and at < here[0].start + here[0].body_at:
@@ -98,6 +91,8 @@ class Edit:
             constant = re.match(r"(?:pub )?const (\w+)", text[text.rfind("\nconst ", 0, at) + 1:]) if not here else None
             if constant:
                 here = [f for f in every if re.search(rf"\b{constant[1]}\b", f.body)]
+            if VARIANT.match(old):
+                here = [f for f in every if f.of and any(f.of.startswith(each) for each in self.types()) and "self as " in f.body]
             if not here:
                 return set()
             touched.update(here)
@@ -125,19 +120,22 @@ def programs():
 
 
 def uncovered(crate):
-    """The exported functions with fewer than two edits of their own: of the body, or of a private function that no other exported one reaches."""
+    """The exported functions and methods with fewer than two edits of their own: of the body, of a private function that no other exported one reaches, or
+    of the type whose method it is."""
     from functions import reached
     every = functions(ROOT, crate)
     edits = of_crate(crate)
     touched = [edit.concerns(every) for edit in edits]
-    methods = [edit.methods() for edit in edits]
+    types = [edit.types() for edit in edits]
     reach = {f: {f} | reached(f, lambda g: not g.exported) for f in every if f.exported}
     for function in reach:
         own = {g for g in reach[function] if not any(g in reach[other] for other in reach if other is not function)}
         count = sum(bool(each & own) for each in touched)
+        # what a method gives for an enum may stand at its variants
+        count += sum(bool(function.of) and any(function.of.startswith(name) for name in each) for each in types)
         # one that only calls a method has the method's
         passed = PASSED.search(function.body[function.body_at:])
         if passed:
-            count += sum(passed[1] in each for each in methods)
+            count += sum(any(f.of and f.name == passed[1] for f in each) for each in touched)
         if count < 2:
             yield function.path, count

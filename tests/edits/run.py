@@ -168,12 +168,17 @@ def size(crate):
 
 
 def main():
-    words, deadline = [word for word in sys.argv[1:] if word != "--anew"], float("inf")
+    words, deadline, every = [word for word in sys.argv[1:] if word != "--anew"], float("inf"), libraries() + programs()
     if "--minutes" in words:
         at = words.index("--minutes")
+        if not re.fullmatch(r"\d+(\.\d+)?", "".join(words[at + 1:at + 2])):
+            raise SystemExit("edits: --minutes takes a number")
         deadline = time.time() + 60 * float(words[at + 1])
         del words[at:at + 2]
-    crates, kept = words or libraries() + programs(), Kept("--anew" in sys.argv)
+    unknown = [word for word in words if word not in every]
+    if unknown:
+        raise SystemExit(f"edits: no crate with edits, and no option: {' '.join(unknown)}\nusage: run.py [--anew] [--minutes N] [CRATE..]")
+    crates, kept = words or every, Kept("--anew" in sys.argv)
     right = wanted = runs = late = 0
     for crate in crates:
         for path, count in uncovered(crate) if crate in libraries() else ():

@@ -8,7 +8,7 @@ import sys
 
 sys.dont_write_bytecode = True
 from edits import Edit  # noqa: E402
-from functions import Function, HEAD  # noqa: E402
+from functions import Function, HEAD, found_in, type_name  # noqa: E402
 import verdicts  # noqa: E402
 
 END = "\nlogic=not-proved\n"
@@ -65,6 +65,77 @@ fn check_kids(tape: &[u8]) -> usize
 """
 FUNCTIONS = {found[2]: Function("", "text", "spans.rt", found, SOURCE) for found in HEAD.finditer(SOURCE)}
 FUNCTIONS["check"].members = FUNCTIONS["check_kids"].members = ["check", "check_kids"]
+METHODS = """trait Weigh {
+    fn weight(self) -> u8;
+}
+
+impl Span {
+    pub fn is_empty(self) -> bool
+        ensures { result ≡ eqb self.len 0 }
+    {
+        self.len == 0
+    }
+
+    #[inline]
+    fn end(self) -> usize {
+        self.start + self.len
+    }
+}
+
+impl<'a> Encode for &'a [u8] {
+    ghost bytes = { λ s. s.now };
+
+    fn encode(self, out: &mut [u8], at: usize) -> usize {
+        if out.is_empty() {
+            return at;
+        }
+        at + self.len()
+    }
+}
+
+impl<const N: usize> Encode for [u8; N] {
+    fn encode(self, out: &mut [u8], at: usize) -> usize {
+        self.as_slice().encode(out, at)
+    }
+}
+
+impl Weigh for Span {
+    fn weight(self) -> u8 {
+        1
+    }
+}
+
+impl TryFrom<u8> for Mode {
+    fn try_from(n: u8) -> Result<Mode, u8>
+        ensures { result ≡ mode_by n }
+    {
+        Err(n)
+    }
+}
+
+impl<'a, T, F: Fn(&T) -> bool> Pass<T> for Parts<'a, F>
+where
+    F: Copy,
+{
+    fn pass(&self) -> bool {
+        true
+    }
+}
+"""
+FOUND = {function.path: function for function in found_in("", "text", "spans.rt", METHODS)}
+# a method, whether it is exported, its first line and the one behind its last, and where its proof stands
+PLACES = [
+    ("text::spans::Span::is_empty", True, 6, 11, "proofs/spans/Span/is_empty"),
+    ("text::spans::Span::end", False, 12, 16, "proofs/spans/Span/end"),
+    ("text::spans::RefSliceU8Encode::encode", True, 21, 27, "proofs/spans/RefSliceU8Encode/encode"),
+    ("text::spans::ArrayU8Encode::encode", True, 30, 33, "proofs/spans/ArrayU8Encode/encode"),
+    ("text::spans::SpanWeigh::weight", False, 36, 39, "proofs/spans/SpanWeigh/weight"),
+    ("text::spans::ModeTryFromU8::try_from", True, 42, 47, "proofs/spans/ModeTryFromU8/try_from"),
+    ("text::spans::PartsPass::pass", True, 53, 56, "proofs/spans/PartsPass/pass"),
+]
+TYPES = [("Span", "Span"), ("u16", "U16"), ("Pen<'_>", "Pen"), ("&'a [u8]", "RefSliceU8"), ("[u8; N]", "ArrayU8"), ("crate::Place", "Place"), ("()", "Unit"), ("(u8, &[u8])", "Tuple2U8RefSliceU8")]
+FUNCTIONS.update((function.path, function) for function in FOUND.values())
+SLICE, ARRAY = "text::spans::RefSliceU8Encode::encode", "text::spans::ArrayU8Encode::encode"
 BOUNDS, CUTS, KIDS = "proofs/spans/span_bounds/Answers.antt", "proofs/spans/cuts_at/Answers.antt", "proofs/spans/+kids/Answers.antt"
 NOT = fn("text::spans::span_bounds", "not proved")
 OFFERED = fn("text::spans::span_bounds", "no proof: expected answers in ./proofs/spans/span_bounds/Answers.antt; `search` did not prove `returns`")
@@ -91,6 +162,10 @@ CASES = [
     ("a member of a cycle", "check_kids", error(KIDS, "check_kids-returns", DIFFER), "refused"),
     ("another member of it", "check", error(KIDS, "check_kids-returns", DIFFER), "open"),
     ("a measure of it", "check", error(KIDS.replace("Answers", "Invariants"), "decreases-check", DIFFER), "refused"),
+    ("a method", SLICE, error("proofs/spans/RefSliceU8Encode/encode/Answers.antt", "returns", DIFFER), "refused"),
+    ("a method's goal", SLICE, goal(25, "returns") + fn(SLICE, "not proved"), "refused"),
+    ("a method of another type", SLICE, error("proofs/spans/ArrayU8Encode/encode/Answers.antt", "returns", DIFFER), "open"),
+    ("its goal", SLICE, goal(31, "returns") + fn(ARRAY, "not proved"), "open"),
     ("a law", None, error("proofs/Boundaries.antt", "cuts_from", DIFFER) + error("proofs/Boundaries.antt", "boundary_next", FOLLOWS), "refused"),
     ("a name that is not there", None, error("proofs/Boundaries.antt", "cuts_from", "`calls_of` is not in scope"), "broken"),
     ("an example before a law", None, error("proofs/Boundaries.antt", "cuts_from", "`x` is not in scope") + error("specs/Examples.antt", "bounds", DIFFER), "refused"),
@@ -121,7 +196,16 @@ def main():
     for what, name, text, wanted in RENAMED:
         if edit.renamed(text, FUNCTIONS[name]) != wanted:
             raise SystemExit(f"{what}: {edit.renamed(text, FUNCTIONS[name])}")
-    print(f"verdicts on edits: {len(CASES) + len(RENAMED)} as they should be")
+    for path, *wanted in PLACES:
+        function = FOUND.get(path)
+        found = function and [function.exported, function.lines.start, function.lines.stop, function.folders()[0]]
+        if found != wanted:
+            raise SystemExit(f"{path}: {found}, not {wanted}")
+    for text, wanted in TYPES:
+        if type_name(text) != wanted:
+            raise SystemExit(f"{text}: {type_name(text)}, not {wanted}")
+    cases = CASES, RENAMED, PLACES, TYPES
+    print(f"verdicts on edits: {sum(map(len, cases))} as they should be")
 
 
 if __name__ == "__main__":

@@ -9,17 +9,19 @@ use native.Mathlib.Omega.{arith}
 use lib.ListN.{length}
 use lib.Dec.{eqb, leb, ltb}
 use borrow.Author.Tests.{leb-true, ltb-false}
-use Rattle.std.specs.Prelude.{Option, Result, Err, get_or}
+use Rattle.std.specs.Prelude.{Option, Result, Ok, Err, get_or}
 use Rattle.text.specs.declared.spans.Span.{Span}
 use Rattle.tape.specs.Numbers.{u16_at}
 use Rattle.commands.specs.declared.error.CommandError.{CommandError}
 use Rattle.commands.specs.declared.error.CommandError.TheVariants.{Cut}
 use Rattle.commands.specs.Operands.{operands}
 use Rattle.commands.specs.Opening.{flags_command, option_command}
-use Rattle.commands.specs.Root.{heritage_command, scope_command, name_command, member_command, attribute_command, property_command, value_command, child_command}
+use Rattle.commands.specs.Root.{scope_kind_of, scoped, heritage_command, scope_command, name_command, member_command, attribute_command, property_command, value_command, child_command}
 use Rattle.commands.specs.Sizes.{root_commands, size_in, command_size, flags_size, option_size, heritage_size, scope_size, name_size, member_size}
 use Rattle.commands.specs.Sizes.{attribute_size, property_size, value_size, child_size}
 use Rattle.commands.specs.declared.opening.OptionCommand.{OptionCommand}
+use Rattle.commands.specs.declared.root.Heritage.{Heritage}
+use Rattle.commands.specs.declared.root.ScopeKind.{ScopeKind}
 use Rattle.commands.specs.declared.root.ScopeCommand.{ScopeCommand}
 use Rattle.commands.specs.declared.root.NameCommand.{NameCommand}
 use Rattle.commands.specs.declared.root.AttributeCommand.{AttributeCommand}
@@ -68,13 +70,21 @@ option_fits last (b ∷ t) e =
 
 -- ---- the root tape
 
-pub heritage_fits : (t : List ℕ) {c : Result ℕ CommandError} → heritage_command t ≡ c → heritage_size c ≤ length t
+pub heritage_fits : (t : List ℕ) {c : Result Heritage CommandError} → heritage_command t ≡ c → heritage_size c ≤ length t
 unfolding heritage_command
 heritage_fits [] e = subst (Within heritage_size []) e (omega arith)
 heritage_fits (b ∷ t) e =
-    let P : Result ℕ CommandError → Type 0 = Within heritage_size (b ∷ t) in
+    let P : Result Heritage CommandError → Type 0 = Within heritage_size (b ∷ t) in
+    let k = get_or t 0 0 in
     subst P e
-    (choose P (eqb b 0x01) (with_operands P 1 t (omega arith) (λ h. choose P (leb (get_or t 0 0) 2) (omega arith) (omega arith))) (omega arith))
+    (choose P (eqb b 0x01)
+    (with_operands P 1 t (omega arith)
+    (λ h. choose P (eqb k 0) (omega arith) (choose P (eqb k 1) (omega arith) (choose P (eqb k 2) (omega arith) (omega arith)))))
+    (omega arith))
+
+scoped_fits : (t : List ℕ) (k : Result ScopeKind CommandError) → 2 ≤ length t → scope_size (scoped k) ≤ length t
+scoped_fits t (Ok k) h = h
+scoped_fits t (Err e) h = omega arith
 
 pub scope_fits : (found : Bool) (t : List ℕ) {c : Result ScopeCommand CommandError} → scope_command found t ≡ c → scope_size c ≤ length t
 unfolding scope_command
@@ -82,7 +92,7 @@ scope_fits found [] e = subst (Within scope_size []) e (omega arith)
 scope_fits found (b ∷ t) e =
     let P : Result ScopeCommand CommandError → Type 0 = Within scope_size (b ∷ t) in
     subst P e
-    (choose P (eqb b 0x02) (with_operands P 1 t (omega arith) (λ h. choose P (leb (get_or t 0 0) 3) (omega arith) (omega arith)))
+    (choose P (eqb b 0x02) (with_operands P 1 t (omega arith) (λ h. scoped_fits (b ∷ t) (scope_kind_of (get_or t 0 0)) (omega arith)))
     (choose P (found && eqb b 0x10) (with_operands P 8 t (omega arith) (λ h. omega arith))
     (choose P (found && eqb b 0x11) (with_operands P 8 t (omega arith) (λ h. omega arith)) (omega arith))))
 

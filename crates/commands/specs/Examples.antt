@@ -6,6 +6,8 @@ use Rattle.commands.specs.declared.error.CommandError.TheVariants.{Wrong, Cut, B
 use Rattle.commands.specs.declared.opening.OptionCommand.{OptionCommand}
 use Rattle.commands.specs.declared.opening.OptionCommand.TheVariants as option
 use Rattle.commands.specs.declared.root.Place.{Place}
+use Rattle.commands.specs.declared.root.Heritage.TheVariants as heritage
+use Rattle.commands.specs.declared.root.ScopeKind.TheVariants as kind
 use Rattle.commands.specs.declared.root.ScopeCommand.TheVariants as scope
 use Rattle.commands.specs.declared.root.NameCommand.TheVariants as name
 use Rattle.commands.specs.declared.root.AttributeCommand.TheVariants as attribute
@@ -95,7 +97,7 @@ options_cut = refl
 -- a command that may not stand there comes first, then operands cut off, then a bad operand
 pub heritage_order :
     map heritage_command ([] ∷ (0x02 ∷ []) ∷ (0x02 ∷ 0 ∷ []) ∷ (0x01 ∷ []) ∷ (0x01 ∷ 3 ∷ []) ∷ (0x01 ∷ 0 ∷ []) ∷ (0x01 ∷ 1 ∷ 9 ∷ []) ∷ (0x01 ∷ 2 ∷ []) ∷ [])
-    ≡ Err Cut ∷ Err Wrong ∷ Err Wrong ∷ Err Cut ∷ Err Bad ∷ Ok 0 ∷ Ok 1 ∷ Ok 2 ∷ []
+    ≡ Err Cut ∷ Err Wrong ∷ Err Wrong ∷ Err Cut ∷ Err Bad ∷ Ok heritage.NoClass ∷ Ok heritage.Base ∷ Ok heritage.Derived ∷ []
 unfolding heritage_command
 heritage_order = refl
 
@@ -115,14 +117,14 @@ scopes =
 -- an element or a fragment comes behind a scope of kind 2 or 3 alone
 pub scopes_before :
     map (scope_command false) scopes
-    ≡ Ok (scope.Scope 0) ∷ Ok (scope.Scope 3) ∷ Err Bad ∷ Err Cut ∷ Err Wrong ∷ Err Wrong ∷ Err Wrong ∷ Err Wrong ∷ Err Cut ∷ []
+    ≡ Ok (scope.Scope kind.Block) ∷ Ok (scope.Scope kind.Function) ∷ Err Bad ∷ Err Cut ∷ Err Wrong ∷ Err Wrong ∷ Err Wrong ∷ Err Wrong ∷ Err Cut ∷ []
 unfolding scope_command
 scopes_before = refl
 
 pub scopes_behind :
     map (scope_command true) scopes
-    ≡ Ok (scope.Scope 0)
-    ∷ Ok (scope.Scope 3)
+    ≡ Ok (scope.Scope kind.Block)
+    ∷ Ok (scope.Scope kind.Function)
     ∷ Err Bad
     ∷ Err Cut
     ∷ Ok (scope.Element (place 1 258))

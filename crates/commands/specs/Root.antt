@@ -1,11 +1,15 @@
 -- docs/TAPES.md, "Root tape": its commands, each set of them by the place where it may stand. Which command stands at the front of
 -- a part of the tape. Of a command that may not stand there `Wrong` is told first, then `Cut` (its operands are cut off, or the tape ends),
 -- then `Bad` (an operand is not allowed).
-use Rattle.std.specs.Prelude.{ℕ, ◌+◌, Bool, cond, ◌&&◌, List, [], ◌∷◌, get_or, eqb, leb, Option, None, Some, Result, Ok, Err}
+use Rattle.std.specs.Prelude.{ℕ, ◌+◌, Bool, true, false, cond, ◌&&◌, List, [], ◌∷◌, get_or, eqb, Option, None, Some, Result, Ok, Err}
 use Rattle.text.specs.declared.spans.Span.{Span}
 use Rattle.commands.specs.declared.error.CommandError.{CommandError}
 use Rattle.commands.specs.declared.error.CommandError.TheVariants.{Wrong, Cut, Bad}
 use Rattle.commands.specs.declared.root.Place.{Place}
+use Rattle.commands.specs.declared.root.Heritage.{Heritage}
+use Rattle.commands.specs.declared.root.Heritage.TheVariants as heritage
+use Rattle.commands.specs.declared.root.ScopeKind.{ScopeKind}
+use Rattle.commands.specs.declared.root.ScopeKind.TheVariants as kind
 use Rattle.commands.specs.declared.root.ScopeCommand.{ScopeCommand}
 use Rattle.commands.specs.declared.root.ScopeCommand.TheVariants as scope
 use Rattle.commands.specs.declared.root.NameCommand.{NameCommand}
@@ -26,17 +30,41 @@ abbrev pub place_at : List ℕ → ℕ → Place
 place_at t i = record { line = u32_at t i; column = u32_at t (i + 4) }
 
 -- a heritage: "nearest class body: 0 none, 1 no superclass, 2 superclass"
-abbrev pub heritage_with : List ℕ → Result ℕ CommandError
-heritage_with t = operands 1 t (cond (leb (get_or t 0 0) 2) (Ok (get_or t 0 0)) (Err Bad))
+abbrev pub heritage_of : ℕ → Result Heritage CommandError
+heritage_of b =
+    cond (eqb b 0) (Ok heritage.NoClass)
+    (cond (eqb b 1) (Ok heritage.Base)
+    (cond (eqb b 2) (Ok heritage.Derived) (Err Bad)))
+
+abbrev pub heritage_with : List ℕ → Result Heritage CommandError
+heritage_with t = operands 1 t (heritage_of (get_or t 0 0))
 
 -- "01 heritage u8"
-unfoldable pub heritage_command : List ℕ → Result ℕ CommandError
+unfoldable pub heritage_command : List ℕ → Result Heritage CommandError
 heritage_command [] = Err Cut
 heritage_command (b ∷ t) = cond (eqb b 0x01) (heritage_with t) (Err Wrong)
 
 -- a scope's kind: "0 block, 1 arrow, 2 constructor, 3 other"
+abbrev pub scope_kind_of : ℕ → Result ScopeKind CommandError
+scope_kind_of b =
+    cond (eqb b 0) (Ok kind.Block)
+    (cond (eqb b 1) (Ok kind.Arrow)
+    (cond (eqb b 2) (Ok kind.Constructor)
+    (cond (eqb b 3) (Ok kind.Function) (Err Bad))))
+
+-- a scope of kind 2 or 3
+abbrev pub is_function : ScopeKind → Bool
+is_function kind.Block = false
+is_function kind.Arrow = false
+is_function kind.Constructor = true
+is_function kind.Function = true
+
+abbrev pub scoped : Result ScopeKind CommandError → Result ScopeCommand CommandError
+scoped (Ok k) = Ok (scope.Scope k)
+scoped (Err e) = Err e
+
 abbrev pub scope_with : List ℕ → Result ScopeCommand CommandError
-scope_with t = operands 1 t (cond (leb (get_or t 0 0) 3) (Ok (scope.Scope (get_or t 0 0))) (Err Bad))
+scope_with t = operands 1 t (scoped (scope_kind_of (get_or t 0 0)))
 
 -- "02 kind u8 once per scope, innermost first, at least one of kind 2 or 3; then one element or fragment": `found` says that one of kind 2 or 3
 -- has come

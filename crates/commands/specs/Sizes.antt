@@ -4,6 +4,7 @@ use Rattle.text.specs.declared.spans.Span.{Span}
 use Rattle.commands.specs.declared.error.CommandError.{CommandError}
 use Rattle.commands.specs.declared.opening.OptionCommand.{OptionCommand}
 use Rattle.commands.specs.declared.opening.OptionCommand.TheVariants as option
+use Rattle.commands.specs.declared.root.Heritage.{Heritage}
 use Rattle.commands.specs.declared.root.ScopeCommand.{ScopeCommand}
 use Rattle.commands.specs.declared.root.ScopeCommand.TheVariants as scope
 use Rattle.commands.specs.declared.root.NameCommand.{NameCommand}
@@ -100,7 +101,7 @@ option_size (Err e) = 0
 
 -- ---- the root tape
 
-abbrev pub heritage_size : Result ℕ CommandError → ℕ
+abbrev pub heritage_size : Result Heritage CommandError → ℕ
 heritage_size (Ok k) = with_kind
 heritage_size (Err e) = 0
 

@@ -17,6 +17,7 @@ pub enum OptionCommand {
 }
 
 // How many sets of the eight flags there are: all other bits are zero.
+// kept: the reader gives the number itself, which is all that the grammar speaks of; `Flags` stands above this crate
 const FLAG_SETS: u16 = 256;
 
 // The first command: its flags.
@@ -35,6 +36,7 @@ pub fn flags_command_at(tape: &[u8]) -> Result<u16, CommandError>
 }
 
 // A command behind the first; none at the tape's end. `last` is the code of the last option on the tape, FLAGS where none has come, IMPORT_SOURCE once a comment has.
+// kept: `last` is a code of the tape, compared with that of the command at hand; an enum would be ordered as these codes are
 #[tactic(auto, unfolding(crate::specs::Opening::option_command))]
 pub fn option_command_at(last: u8, tape: &[u8]) -> Result<Option<OptionCommand>, CommandError>
     ensures { result ≡ option_command last tape.now }

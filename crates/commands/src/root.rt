@@ -1,7 +1,7 @@
 // The commands of the root tape, a reader for each place where commands may stand. Each tests in the order of docs/TAPES.md, "Refusals": a
 // command that may not stand there, operands cut off, an operand that is not allowed.
 ghost use Rattle.std.specs.Prelude.{◌≡◌};
-ghost use Rattle.commands.specs.Root.{place_at, heritage_command, scope_command, name_command, member_command, attribute_command, property_command, value_command, child_command};
+ghost use Rattle.commands.specs.Root.{place_at, heritage_of, scope_kind_of, is_function, heritage_command, scope_command, name_command, member_command, attribute_command, property_command, value_command, child_command};
 
 use crate::codes;
 use crate::error::{CommandError, operand, operand_pair};
@@ -30,9 +30,67 @@ impl Operand for Place {
     }
 }
 
+// The nearest class body around a root: none, one without a superclass, one with one. On the tape they are 0, 1 and 2.
+#[derive(Clone, Copy)]
+pub enum Heritage {
+    NoClass,
+    Base,
+    Derived,
+}
+
+impl TryFrom<u8> for Heritage {
+    type Error = CommandError;
+
+    ghost try_from_gives = { λ b r. r ≡ heritage_of b };
+
+    fn try_from(b: u8) -> Result<Heritage, CommandError> {
+        match b {
+            0 => Ok(Heritage::NoClass),
+            1 => Ok(Heritage::Base),
+            2 => Ok(Heritage::Derived),
+            _ => Err(CommandError::Bad),
+        }
+    }
+}
+
+// The kinds of scopes; `Function` is any but an arrow and a constructor. On the tape they are 0 to 3.
+#[derive(Clone, Copy)]
+pub enum ScopeKind {
+    Block,
+    Arrow,
+    Constructor,
+    Function,
+}
+
+impl TryFrom<u8> for ScopeKind {
+    type Error = CommandError;
+
+    ghost try_from_gives = { λ b r. r ≡ scope_kind_of b };
+
+    fn try_from(b: u8) -> Result<ScopeKind, CommandError> {
+        match b {
+            0 => Ok(ScopeKind::Block),
+            1 => Ok(ScopeKind::Arrow),
+            2 => Ok(ScopeKind::Constructor),
+            3 => Ok(ScopeKind::Function),
+            _ => Err(CommandError::Bad),
+        }
+    }
+}
+
+impl ScopeKind {
+    // Whether the scope has a `this` of its own.
+    pub fn is_function(self) -> bool
+        ensures { result ≡ is_function self }
+    {
+        matches!(self, ScopeKind::Constructor | ScopeKind::Function)
+    }
+}
+
+// kept: an element and a fragment stand in three of these enums, since each place has its own list of commands and each reader its own order of tests
 #[derive(Clone, Copy)]
 pub enum ScopeCommand {
-    Scope(u8),
+    Scope(ScopeKind),
     Element(Place),
     Fragment(Place),
 }
@@ -82,39 +140,28 @@ pub enum ChildCommand {
     End,
 }
 
-// The heritages: 0 none, 1 a class without a superclass, 2 a class with one.
-const LAST_HERITAGE: u8 = 2;
-
 #[tactic(auto, unfolding(crate::specs::Root::heritage_command))]
-pub fn heritage_command_at(tape: &[u8]) -> Result<u8, CommandError>
+pub fn heritage_command_at(tape: &[u8]) -> Result<Heritage, CommandError>
     ensures { result ≡ heritage_command tape.now }
 {
     match tape.split_first() {
         None => Err(CommandError::Cut),
-        Some((&codes::HERITAGE, rest)) => match operand(rest, 0)? {
-            kind if kind <= LAST_HERITAGE => Ok(kind),
-            _ => Err(CommandError::Bad),
-        },
+        Some((&codes::HERITAGE, rest)) => Heritage::try_from(operand::<u8>(rest, 0)?),
         Some(_) => Err(CommandError::Wrong),
     }
 }
 
-// The kinds of scopes: 0 a block, 1 an arrow, 2 a constructor, 3 any other function.
-const LAST_SCOPE: u8 = 3;
-
-// `found`: a scope of kind 2 or 3 has come.
+// `found`: a constructor or another function has come.
 #[tactic(auto, unfolding(crate::specs::Root::scope_command))]
 pub fn scope_command_at(found: bool, tape: &[u8]) -> Result<ScopeCommand, CommandError>
     ensures { result ≡ scope_command found tape.now }
 {
-    let Some((&code, rest)) = tape.split_first() else {
-        return Err(CommandError::Cut);
-    };
+    let (&code, rest) = tape.split_first().ok_or(CommandError::Cut)?;
     match code {
-        codes::SCOPE => match operand(rest, 0)? {
-            kind if kind <= LAST_SCOPE => Ok(ScopeCommand::Scope(kind)),
-            _ => Err(CommandError::Bad),
-        },
+        codes::SCOPE => {
+            let kind = ScopeKind::try_from(operand::<u8>(rest, 0)?)?;
+            Ok(ScopeCommand::Scope(kind))
+        }
         codes::ELEMENT if found => Ok(ScopeCommand::Element(operand(rest, 0)?)),
         codes::FRAGMENT if found => Ok(ScopeCommand::Fragment(operand(rest, 0)?)),
         _ => Err(CommandError::Wrong),
@@ -125,9 +172,7 @@ pub fn scope_command_at(found: bool, tape: &[u8]) -> Result<ScopeCommand, Comman
 pub fn name_command_at(tape: &[u8]) -> Result<NameCommand, CommandError>
     ensures { result ≡ name_command tape.now }
 {
-    let Some((&code, rest)) = tape.split_first() else {
-        return Err(CommandError::Cut);
-    };
+    let (&code, rest) = tape.split_first().ok_or(CommandError::Cut)?;
     match code {
         codes::TAG => Ok(NameCommand::Plain(operand(rest, 0)?)),
         codes::TAG_IDENTIFIER => Ok(NameCommand::Identifier(operand(rest, 0)?)),
@@ -155,9 +200,7 @@ pub fn member_command_at(tape: &[u8]) -> Result<Option<Span>, CommandError>
 pub fn attribute_command_at(tape: &[u8]) -> Result<AttributeCommand, CommandError>
     ensures { result ≡ attribute_command tape.now }
 {
-    let Some((&code, rest)) = tape.split_first() else {
-        return Err(CommandError::Cut);
-    };
+    let (&code, rest) = tape.split_first().ok_or(CommandError::Cut)?;
     match code {
         codes::ATTRIBUTE => Ok(AttributeCommand::Plain(operand(rest, 0)?)),
         codes::ATTRIBUTE_NAMESPACED => {
@@ -175,9 +218,7 @@ pub fn attribute_command_at(tape: &[u8]) -> Result<AttributeCommand, CommandErro
 pub fn property_command_at(tape: &[u8]) -> Result<PropertyCommand, CommandError>
     ensures { result ≡ property_command tape.now }
 {
-    let Some((&code, rest)) = tape.split_first() else {
-        return Err(CommandError::Cut);
-    };
+    let (&code, rest) = tape.split_first().ok_or(CommandError::Cut)?;
     match code {
         codes::PROPERTY => Ok(PropertyCommand::Property(operand(rest, 0)?)),
         codes::NAMED_PROPERTY => {
@@ -193,9 +234,7 @@ pub fn property_command_at(tape: &[u8]) -> Result<PropertyCommand, CommandError>
 pub fn value_command_at(tape: &[u8]) -> Result<ValueCommand, CommandError>
     ensures { result ≡ value_command tape.now }
 {
-    let Some((&code, rest)) = tape.split_first() else {
-        return Err(CommandError::Cut);
-    };
+    let (&code, rest) = tape.split_first().ok_or(CommandError::Cut)?;
     match code {
         codes::NO_VALUE => Ok(ValueCommand::Absent),
         codes::STRING_VALUE => Ok(ValueCommand::Text(operand(rest, 0)?)),
@@ -211,9 +250,7 @@ pub fn value_command_at(tape: &[u8]) -> Result<ValueCommand, CommandError>
 pub fn child_command_at(tape: &[u8]) -> Result<ChildCommand, CommandError>
     ensures { result ≡ child_command tape.now }
 {
-    let Some((&code, rest)) = tape.split_first() else {
-        return Err(CommandError::Cut);
-    };
+    let (&code, rest) = tape.split_first().ok_or(CommandError::Cut)?;
     match code {
         codes::TEXT => Ok(ChildCommand::Text(operand(rest, 0)?)),
         codes::CONTAINER => Ok(ChildCommand::Expression(operand(rest, 0)?)),

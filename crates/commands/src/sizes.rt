@@ -1,5 +1,6 @@
 // How many bytes of its tape a command takes: one for its code, and its operands.
 ghost use Rattle.std.specs.Prelude.{◌≡◌};
+ghost use Rattle.text.specs.Utf8.{nonzero};
 ghost use Rattle.commands.specs.Sizes.{command_size};
 
 use crate::root::Place;
@@ -26,34 +27,22 @@ pub const WITH_PLACE: usize = BARE + Place::SIZE;
 
 // ---- what the commands of the root tape take, by code
 
-// Sixteen codes in a row, a hexadecimal digit for each, the first code's the last digit; 0 where there is no command. `root_commands` (specs/Sizes) names them.
-const ROW_0: u64 = 0x0000_0000_0000_0220;
+// By its code how many bytes a command takes, sixteen codes in a line; 0 where there is no command. `root_commands` (specs/Sizes) names them.
+static SIZES: [u8; 96] = [
+    0, 2, 2, 0, 0, 0, 0, 0, 0, 0, 0, 0, 0, 0, 0, 0, // 00
+    9, 9, 0, 0, 0, 0, 0, 0, 0, 0, 0, 0, 0, 0, 1, 1, // 10
+    5, 5, 1, 9, 0, 5, 0, 0, 0, 0, 0, 0, 0, 0, 0, 0, // 20
+    5, 9, 3, 3, 3, 1, 7, 0, 0, 0, 0, 0, 0, 0, 0, 0, // 30
+    1, 5, 3, 1, 0, 0, 0, 0, 0, 0, 0, 0, 0, 0, 0, 0, // 40
+    5, 3, 0, 0, 0, 0, 0, 0, 0, 0, 0, 0, 0, 0, 0, 0, // 50
+];
 
-const ROW_1: u64 = 0x1100_0000_0000_0099;
-
-const ROW_2: u64 = 0x0000_0000_0050_9155;
-
-const ROW_3: u64 = 0x0000_0000_0713_3395;
-
-const ROW_4: u64 = 0x0000_0000_0000_1351;
-
-const ROW_5: u64 = 0x0000_0000_0000_0035;
-
-// How many bytes the command of the root tape with this code takes; 0 where there is none. Shifts find the digit in a row: a match of all codes is called and
-// jumps, and a table that is a constant would be made anew at each call.
-// kept: 0 is read off a row like any size; an Option would be made of it by a test, and unmade by the test that both callers make
-pub fn command_size(code: u8) -> usize
-    ensures { result ≡ command_size code }
+// How many bytes the command of the root tape with this code takes.
+pub fn command_size(code: u8) -> Option<usize>
+    ensures { result ≡ nonzero (command_size code) }
 {
-    let row: u64 = match code >> 4 {
-        0 => ROW_0,
-        1 => ROW_1,
-        2 => ROW_2,
-        3 => ROW_3,
-        4 => ROW_4,
-        5 => ROW_5,
-        _ => 0,
-    };
-    let digit = (code << 4) >> 2;
-    (((row >> digit) << 60) >> 60) as usize
+    match *SIZES.get(usize::from(code))? {
+        0 => None,
+        size => Some(usize::from(size)),
+    }
 }

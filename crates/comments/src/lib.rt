@@ -15,7 +15,7 @@ ghost use Rattle.definitions.specs.Comments.{is_blank, is_white, leads_in, place
 
 use commands::{codes, sizes};
 use definitions::options::{Flags, Options};
-use tape::numbers::read_span;
+use tape::numbers::Operand;
 use text::spans::{Span, part};
 
 // What a pragma sets.
@@ -56,21 +56,12 @@ fn leads_in(b: u8) -> bool
     matches!(b, b' ' | b'\t' | b'\r' | b'\n' | b'*')
 }
 
-// The first byte that passes.
-fn first_place<F: Fn(u8) -> bool>(s: &[u8], passes: F) -> Option<usize>
-    requires { F.IsAlwaysCallable passes }
-    ensures inside { IfSome result (λ i. i < length s.now) }
-    ensures first { (p : ℕ → Bool) → ((b : ℕ) (r : Bool) → F.post passes b r → r ≡ p b) → result ≡ position p s.now }
-{
-    s.iter().position(|b| passes(*b))
-}
-
 // The place of the first byte that passes, from `from` on.
 fn place_from<F: Fn(u8) -> bool>(s: &[u8], from: usize, passes: F) -> Option<usize>
     requires { F.IsAlwaysCallable passes }
     ensures { (p : ℕ → Bool) → ((b : ℕ) (r : Bool) → F.post passes b r → r ≡ p b) → result ≡ place_from p s.now from }
 {
-    let n = first_place(s.get(from..)?, passes)?;
+    let n = s.get(from..)?.iter().position(|b| passes(*b))?;
     Some(from + n)
 }
 
@@ -89,7 +80,7 @@ fn next4(comment: &[u8], sign: usize) -> Option<u32>
     requires { sign ≤ length comment.now }
     ensures { result ≡ four_at comment.now sign }
 {
-    let bytes = comment[sign..].first_chunk()?;
+    let bytes = comment[sign..].first_chunk::<4>()?;
     Some(u32::from_le_bytes(*bytes))
 }
 
@@ -97,6 +88,7 @@ fn next4(comment: &[u8], sign: usize) -> Option<u32>
 fn keyword_of(word: &[u8]) -> Option<PragmaType>
     ensures { keyword_for result ≡ keyword_of word.now }
 {
+    // kept: a match on the words leaves the arms of seven and twelve bytes open: `search` and `grind` stop before they have joined the bytes
     if word == b"".as_slice() {
         return Some(PragmaType::Jsx);
     }
@@ -117,6 +109,7 @@ fn find_keyword(comment: &[u8], start: usize) -> Option<(PragmaType, usize)>
     ensures { search_for result ≡ seek (length comment.now) comment.now start }
 {
     let mut from = start;
+    // kept: the two refusals of an at sign go on with the search, as the original's labelled loop does
     'signs: loop {
         let sign = place_from(comment, from, |b| b == b'@')?;
         let counts = stands_well(comment, from, sign);
@@ -153,7 +146,7 @@ fn find_jsx_pragma<'a>(comment: &'a [u8], at: usize) -> Option<Pragma<'a>>
     let (kind, from) = find_keyword(comment, at)?;
     let start = place_from(comment, from, |b| !is_blank(b))?;
     let value = value_of(&comment[start..]);
-    if value.len() == 0 {
+    if value.is_empty() {
         return None;
     }
     Some(Pragma {
@@ -166,6 +159,7 @@ fn find_jsx_pragma<'a>(comment: &'a [u8], at: usize) -> Option<Pragma<'a>>
 fn with_runtime(flags: Flags, value: &[u8]) -> Flags
     ensures { result ≡ with_runtime flags value.now }
 {
+    // kept: a match on the words, as in `keyword_of`
     if value == b"classic".as_slice() {
         return Flags {
             classic: true,
@@ -229,10 +223,7 @@ fn update_options_with_comment(text: &[u8], options: Options, comment: Span) -> 
     let mut at = 0;
     while let Some(pragma) = find_jsx_pragma(content, at) {
         let len = pragma.value.len();
-        let span = Span {
-            start: (comment.start as usize + pragma.end - len) as u16,
-            len: len as u16,
-        };
+        let span = Span::new(usize::from(comment.start) + pragma.end - len, len);
         held = apply(held, pragma.kind, span, pragma.value);
         // behind the one white byte that ends the value
         at = pragma.end + 1;
@@ -251,8 +242,8 @@ pub fn update_options_with_comments(text: &[u8], options: Options, tape: &[u8]) 
     };
     let mut held = options;
     for command in commands.chunks_exact(sizes::WITH_SPAN) {
-        if command[0] == codes::COMMENT {
-            held = update_options_with_comment(text, held, read_span(command, sizes::BARE));
+        if let [codes::COMMENT, operand @ ..] = command {
+            held = update_options_with_comment(text, held, Span::read(operand, 0));
         }
     }
     held

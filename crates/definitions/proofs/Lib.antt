@@ -1,4 +1,5 @@
 pub mod FaultOrder
+pub mod Legible
 pub mod ReadBack
 pub mod Counting
 pub mod Numbering

@@ -20,6 +20,8 @@ use Rattle.tape.specs.declared.refusal.Fault.TheVariants as fault
 use Rattle.std.specs.Prelude.{None, Option, Some, Err, Ok, Result}
 use Rattle.commands.specs.declared.error.CommandError.{CommandError}
 use Rattle.commands.specs.declared.root.Place.{Place}
+use Rattle.commands.specs.declared.root.Heritage.{Heritage}
+use Rattle.commands.specs.declared.root.ScopeKind.{ScopeKind}
 use Rattle.commands.specs.declared.root.ScopeCommand.{ScopeCommand}
 use Rattle.commands.specs.declared.root.ScopeCommand.TheVariants as scopes
 use Rattle.commands.specs.declared.root.NameCommand.{NameCommand}
@@ -238,8 +240,8 @@ mutual
 abbrev ScopedSized : Parsed Scoped → Type 0
 ScopedSized p = Told (λ s u. size_node s.node ≤ u) p
 
-scopes_by_command : (text t : List ℕ) (c : Result ScopeCommand CommandError) (full bare : Place → Parsed Node) (next : ℕ → Parsed Scoped)
-    → ((p : Place) → NodeSized (full p)) → ((p : Place) → NodeSized (bare p)) → ((k : ℕ) → ScopedSized (next k)) → ScopedSized (scopes_by text t c full bare next)
+scopes_by_command : (text t : List ℕ) (c : Result ScopeCommand CommandError) (full bare : Place → Parsed Node) (next : ScopeKind → Parsed Scoped)
+    → ((p : Place) → NodeSized (full p)) → ((p : Place) → NodeSized (bare p)) → ((k : ScopeKind) → ScopedSized (next k)) → ScopedSized (scopes_by text t c full bare next)
 unfolding scopes_by
 scopes_by_command text t (Err e) full bare next h k n = faults
 scopes_by_command text t (Ok (scopes.Scope x)) full bare next h k n = told_map (in_scope x) (n x) (λ s u e. e)
@@ -258,7 +260,7 @@ scopes_size (suc f) text known t =
 abbrev RootSized : Parsed Root → Type 0
 RootSized p = Told (λ r u. size_node r.node ≤ u) p
 
-root_by_command : (t : List ℕ) (c : Result ℕ CommandError) (rest : Parsed Scoped) → ScopedSized rest → RootSized (root_by t c rest)
+root_by_command : (t : List ℕ) (c : Result Heritage CommandError) (rest : Parsed Scoped) → ScopedSized rest → RootSized (root_by t c rest)
 unfolding root_by
 root_by_command t (Err e) rest h = faults
 root_by_command t (Ok x) rest h = told_map _ h (λ s u e. e)

@@ -1,5 +1,5 @@
 -- How readings and refusals are put together.
-use Rattle.std.specs.Prelude.{ℕ, ◌+◌, Bool, true, false, List, length, ltb, None, Option, Some}
+use Rattle.std.specs.Prelude.{ℕ, ◌+◌, Bool, true, false, List, length, ltb, None, Option, Some, Err, Ok, Result}
 use Rattle.text.specs.declared.spans.Bounds.{Bounds}
 use Rattle.text.specs.declared.spans.Bounds.TheVariants.{Outside, Cuts, Empty, Good}
 use Rattle.text.specs.Utf8.{first_ill}
@@ -7,6 +7,8 @@ use Rattle.tape.specs.Limits.{max_length}
 use Rattle.tape.specs.declared.refusal.Fault.{Fault}
 use Rattle.tape.specs.declared.refusal.Fault.TheVariants as fault
 use Rattle.tape.specs.declared.refusal.Refusal.{Refusal}
+use Rattle.tape.specs.declared.refusal.TapeError.{TapeError}
+use Rattle.tape.specs.Refusals.{fault_at}
 use Rattle.tape.specs.declared.refusal.Refusal.TheVariants as refusal
 use Rattle.commands.specs.declared.error.CommandError.{CommandError}
 use Rattle.commands.specs.declared.error.CommandError.TheVariants as command
@@ -44,6 +46,11 @@ error_place t command.Bad = 0
 
 abbrev pub unreadable : {A : Type 0} → List ℕ → CommandError → Parsed A
 unreadable t e = stop fault.Grammar (error_place t e)
+
+-- a command at the front of t, or where it is told that it can't be read
+unfoldable pub legible : {C : Type 0} → List ℕ → Result C CommandError → Result C TapeError
+legible t (Ok c) = Ok c
+legible t (Err e) = Err (fault_at fault.Grammar (error_place t e))
 
 -- what follows a command whose span is in order; the span may be empty
 unfoldable pub spanned : {A : Type 0} → Bounds → Parsed A → Parsed A

@@ -5,6 +5,10 @@ use Rattle.text.specs.declared.spans.Span.{Span}
 use Rattle.text.specs.Bytes.{ascii, same, find}
 use Rattle.text.specs.Spans.{part_of}
 use Rattle.commands.specs.declared.root.Place.{Place}
+use Rattle.commands.specs.declared.root.Heritage.{Heritage}
+use Rattle.commands.specs.declared.root.Heritage.TheVariants as heritage
+use Rattle.commands.specs.declared.root.ScopeKind.{ScopeKind}
+use Rattle.commands.specs.declared.root.ScopeKind.TheVariants as kind
 use Rattle.definitions.specs.declared.options.Mode.{Mode}
 use Rattle.definitions.specs.declared.options.Mode.TheVariants.{Module, Script, Classic}
 use Rattle.definitions.specs.declared.options.Settings.{Settings}
@@ -328,14 +332,19 @@ unfoldable mutual
 
 -- ---- a root
 
--- `is_inside_constructor`: the first scope that is no block (0) and no arrow (1) is a constructor (2)
-unfoldable pub inside_constructor : List ℕ → Bool
+-- `is_inside_constructor`: the first scope that is no block and no arrow is a constructor
+unfoldable pub inside_constructor : List ScopeKind → Bool
 inside_constructor [] = false
-inside_constructor (k ∷ ks) = cond (leb k 1) (inside_constructor ks) (eqb k 2)
+inside_constructor (kind.Block ∷ ks) = inside_constructor ks
+inside_constructor (kind.Arrow ∷ ks) = inside_constructor ks
+inside_constructor (kind.Constructor ∷ ks) = true
+inside_constructor (kind.Function ∷ ks) = false
 
--- `has_no_super_class`: "nearest class body: 0 none, 1 no superclass, 2 superclass"
-abbrev pub no_super_class : ℕ → Bool
-no_super_class h = not (eqb h 2)
+-- `has_no_super_class`: the nearest class body extends nothing, or there is none
+abbrev pub no_super_class : Heritage → Bool
+no_super_class heritage.NoClass = true
+no_super_class heritage.Base = true
+no_super_class heritage.Derived = false
 
 -- `can_add_self_attribute`
 abbrev pub can_add_self : Root → Bool

@@ -1,6 +1,10 @@
 -- docs/TAPES.md, "Opening tape": the options that the opening tape gives (options.rs).
-use Rattle.std.specs.Prelude.{ℕ, ◌/◌, ◌%◌, ◌^◌, Bool, ◌||◌, eqb}
+use Rattle.std.specs.Prelude.{ℕ, ◌/◌, ◌%◌, ◌^◌, Bool, cond, ◌||◌, eqb}
 use Rattle.definitions.specs.declared.options.Flags.{Flags}
+use Rattle.definitions.specs.declared.options.Mode.{Mode}
+use Rattle.definitions.specs.declared.options.Mode.TheVariants.{Module, Script, Classic}
+use Rattle.definitions.specs.declared.options.PragmaRoot.{PragmaRoot}
+use Rattle.definitions.specs.declared.options.PragmaRoot.TheVariants as root
 
 -- bit i of a number
 abbrev pub bit : ℕ → ℕ → Bool
@@ -33,3 +37,16 @@ conform f =
       pure = f.pure;
       «module» = f.«module»;
     }
+
+-- ---- the numbers of a bindings mode and of a pragma's root, as a state's bytes tell them (packing)
+
+unfoldable pub mode_number : Mode → ℕ
+mode_number Module = 0
+mode_number Script = 1
+mode_number Classic = 2
+
+unfoldable pub mode_by : ℕ → Mode
+mode_by n = cond (eqb n 0) Module (cond (eqb n 1) Script Classic)
+
+unfoldable pub root_by : ℕ → PragmaRoot
+root_by n = cond (eqb n 0) root.Default (cond (eqb n 1) root.This (cond (eqb n 2) root.ImportMeta root.Identifier))

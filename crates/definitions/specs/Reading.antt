@@ -7,6 +7,8 @@ use Rattle.references.specs.References.{has_reference}
 use Rattle.tape.specs.declared.refusal.Fault.TheVariants as fault
 use Rattle.commands.specs.declared.error.CommandError.{CommandError}
 use Rattle.commands.specs.declared.root.Place.{Place}
+use Rattle.commands.specs.declared.root.Heritage.{Heritage}
+use Rattle.commands.specs.declared.root.ScopeKind.{ScopeKind}
 use Rattle.commands.specs.declared.root.ScopeCommand.{ScopeCommand}
 use Rattle.commands.specs.declared.root.ScopeCommand.TheVariants as scopes
 use Rattle.commands.specs.declared.root.NameCommand.{NameCommand}
@@ -19,6 +21,7 @@ use Rattle.commands.specs.declared.root.ValueCommand.{ValueCommand}
 use Rattle.commands.specs.declared.root.ValueCommand.TheVariants as values
 use Rattle.commands.specs.declared.root.ChildCommand.{ChildCommand}
 use Rattle.commands.specs.declared.root.ChildCommand.TheVariants as children
+pub use Rattle.commands.specs.Root.{is_function}
 use Rattle.commands.specs.Root.{heritage_command, scope_command, name_command, member_command, attribute_command, property_command, value_command, child_command}
 use Rattle.definitions.specs.Judging.{Parsed, done, stop, ◌then◌, map, from, wrong, unreadable, spanned, named, worse}
 use Rattle.definitions.specs.Tree.{Name, plain, identifier, this, namespaced, Property, unnamed, prop_name, Node, element, fragment, Attributes, no_attributes, attribute, namespaced_attribute, spread, literal, Value, absent, string, expression, empty, node_value, Children, no_children, text_child, expression_child, empty_child, spread_child, node_child, Root}
@@ -137,21 +140,17 @@ unfoldable mutual
 
 -- ---- the whole tape
 
--- a scope of kind 2 or 3
-abbrev pub is_function : ℕ → Bool
-is_function k = leb 2 k
-
 pub record Scoped : Type 0 where
-  pub kinds : List ℕ
+  pub kinds : List ScopeKind
   pub node : Node
 
-abbrev pub in_scope : ℕ → Scoped → Scoped
+abbrev pub in_scope : ScopeKind → Scoped → Scoped
 in_scope k s = record { kinds = k ∷ s.kinds; node = s.node }
 
 abbrev pub unscoped : Node → Scoped
 unscoped n = record { kinds = []; node = n }
 
-unfoldable pub scopes_by : List ℕ → List ℕ → Result ScopeCommand CommandError → (Place → Parsed Node) → (Place → Parsed Node) → (ℕ → Parsed Scoped) → Parsed Scoped
+unfoldable pub scopes_by : List ℕ → List ℕ → Result ScopeCommand CommandError → (Place → Parsed Node) → (Place → Parsed Node) → (ScopeKind → Parsed Scoped) → Parsed Scoped
 scopes_by text t (Err e) whole bare next = unreadable t e
 scopes_by text t (Ok (scopes.Scope k)) whole bare next = map (in_scope k) (next k)
 scopes_by text t (Ok (scopes.Element p)) whole bare next = map unscoped (opened 0 p (whole p))
@@ -166,7 +165,7 @@ scopes_at (suc f) text known t =
     (λ p. fragment_at f text 0 p (drop 9 t))
     (λ k. from 2 (scopes_at f text (known || is_function k) (drop 2 t)))
 
-unfoldable pub root_by : List ℕ → Result ℕ CommandError → Parsed Scoped → Parsed Root
+unfoldable pub root_by : List ℕ → Result Heritage CommandError → Parsed Scoped → Parsed Root
 root_by t (Err e) rest = unreadable t e
 root_by t (Ok h) rest = map (λ s. record { heritage = h; scopes = s.kinds; node = s.node }) rest
 

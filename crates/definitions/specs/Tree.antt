@@ -2,6 +2,8 @@
 use Rattle.std.specs.Prelude.{ℕ, List}
 use Rattle.text.specs.declared.spans.Span.{Span}
 use Rattle.commands.specs.declared.root.Place.{Place}
+use Rattle.commands.specs.declared.root.Heritage.{Heritage}
+use Rattle.commands.specs.declared.root.ScopeKind.{ScopeKind}
 
 -- "20 S string; 21 S identifier or 22 `this`, each with any number of 25 S properties; 23 S S namespaced"
 pub data Name : Type 0 where
@@ -48,6 +50,6 @@ mutual
 
 -- "01 heritage u8; 02 kind u8 once per scope, innermost first; then one element or fragment"
 pub record Root : Type 0 where
-  pub heritage : ℕ
-  pub scopes : List ℕ
+  pub heritage : Heritage
+  pub scopes : List ScopeKind
   pub node : Node

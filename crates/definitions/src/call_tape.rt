@@ -3,6 +3,7 @@ ghost use Rattle.std.specs.Prelude.{◌≡◌, ℕ};
 ghost use Rattle.definitions.specs.Calls.{bare_code, byte_code, expression_code, span_code};
 
 // A command by the byte that it begins with.
+// kept: `From<Bare> for u8` and three more would be as many impls, each with the same law, and `u8::from(..)` at each call where this reads `.code()`
 pub trait Coded {
     ghost code: { Self → ℕ };
 
@@ -98,6 +99,7 @@ impl Coded for WithSpan {
 }
 
 // A binding; with a line and a column.
+// kept: one command for each of these kinds of operands: an enum of one variant would only be turned back into its byte
 pub const BINDING: u8 = 0x96;
 
 pub const SOURCE: u8 = 0xa1;

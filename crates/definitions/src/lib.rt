@@ -3,6 +3,7 @@
 
 pub mod call_tape;
 pub mod options;
+pub mod reading;
 pub mod record_tape;
 pub mod records;
 pub mod state;

@@ -1,8 +1,12 @@
 // Options as the opening tape and the comments give them, and the settings that follow from them.
+ghost use Rattle.std.specs.Prelude.{◌≡◌, cond, ltb, Some, None};
+ghost use Rattle.std.specs.Result.{result_ok};
+ghost use Rattle.definitions.specs.Options.{mode_by, root_by};
+
 use text::spans::Span;
 
 // The flags of the opening tape, bit by bit.
-#[derive(Clone, Copy)]
+#[derive(Clone, Copy, Default)]
 pub struct Flags {
     pub jsx_plugin: bool,
     pub self_plugin: bool,
@@ -15,7 +19,7 @@ pub struct Flags {
 }
 
 // The options: flags, the JSX pragma pair, the import source, and the TypeScript pragma pair.
-#[derive(Clone, Copy)]
+#[derive(Clone, Copy, Default)]
 pub struct Options {
     pub flags: Flags,
     pub pragma: Option<Span>,
@@ -33,17 +37,53 @@ pub enum Mode {
     Classic,
 }
 
+// By its number, which `as u8` gives.
+impl TryFrom<u8> for Mode {
+    type Error = ();
+
+    ghost try_from_gives = { λ n r. result_ok r ≡ cond (ltb n 3) (Some (mode_by n)) None };
+
+    #[tactic(auto, unfolding(crate::specs::Options::mode_by))]
+    fn try_from(number: u8) -> Result<Mode, ()> {
+        match number {
+            0 => Ok(Mode::Module),
+            1 => Ok(Mode::Script),
+            2 => Ok(Mode::Classic),
+            _ => Err(()),
+        }
+    }
+}
+
 // What a pragma begins with: the default's `React`, `this`, `import.meta` or an identifier.
-#[derive(Clone, Copy, PartialEq, Eq)]
+#[derive(Clone, Copy, PartialEq, Eq, Default)]
 pub enum PragmaRoot {
+    #[default]
     Default,
     This,
     ImportMeta,
     Identifier,
 }
 
+// By its number, which `as u8` gives.
+impl TryFrom<u8> for PragmaRoot {
+    type Error = ();
+
+    ghost try_from_gives = { λ n r. result_ok r ≡ cond (ltb n 4) (Some (root_by n)) None };
+
+    #[tactic(auto, unfolding(crate::specs::Options::root_by))]
+    fn try_from(number: u8) -> Result<PragmaRoot, ()> {
+        match number {
+            0 => Ok(PragmaRoot::Default),
+            1 => Ok(PragmaRoot::This),
+            2 => Ok(PragmaRoot::ImportMeta),
+            3 => Ok(PragmaRoot::Identifier),
+            _ => Err(()),
+        }
+    }
+}
+
 // A pragma's root and how many parts follow it. (The parts themselves are in the text.)
-#[derive(Clone, Copy, PartialEq, Eq)]
+#[derive(Clone, Copy, PartialEq, Eq, Default)]
 pub struct Form {
     pub root: PragmaRoot,
     pub tail: usize,

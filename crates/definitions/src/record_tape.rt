@@ -1,5 +1,5 @@
 // The commands of the record tape and of the notice tape by name. docs/TAPES.md says what each means.
-// kept: each is written once, as the byte that it is: an enum would only be turned back into it
+// kept: each is written in one place, as the byte that it is, among others of one array; an enum would be turned back into it there
 
 // Records: a source's group, a named import, a require, the file name.
 pub const GROUP: u8 = 0xb0;

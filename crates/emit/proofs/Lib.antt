@@ -3,3 +3,4 @@ pub mod Members
 pub mod Names
 pub mod Properties
 pub mod RootHeads
+pub mod Outlines

@@ -2,7 +2,7 @@
 --     stopped                      a fault is nothing read
 --     named_done, spanned_done     what follows a span in order
 --     map_done, from_done, then_done     what was read before it was changed, further on, or first
---     in_part, part_short                a reading further on, in the part that is handed on
+--     in_part, part_short, part_smaller  a reading further on, in the part that is handed on
 --     Rest, rest_all, rest_more          what is left of a tape
 -- Assumes nothing.
 use mathlib.Core.Path.{◌≡◌, refl, ap, ◌∙◌}
@@ -57,6 +57,10 @@ in_part g t k e = ap g (tail_part t k) ∙ e
 
 pub part_short : (t : List ℕ) (k f : ℕ) → length t < f → length (take (length t - k) (drop k t)) < f
 part_short t k f h = rw (tail_part t k) (omega (arith, length-drop k t))
+
+-- and shorter, by k bytes that are there
+pub part_smaller : (t : List ℕ) (k : ℕ) → 1 ≤ k → k ≤ length t → length (take (length t - k) (drop k t)) < length t
+part_smaller t k some fits = rw (tail_part t k) (omega (arith, some, fits, length-drop k t))
 
 -- t' is what is left of t
 pub record Rest (t t' : List ℕ) : Type 0 where

@@ -8,16 +8,18 @@ use Rattle.std.specs.Prelude.{Result, Ok, Err}
 use mathlib.Core.Path.{◌≡◌, refl, sym, ap, subst, ◌∙◌}
 use mathlib.Core.Bool.{Bool, true, false, cond, not, ◌&&◌, ◌||◌}
 use mathlib.Core.List.{List, [], ◌∷◌}
-use Prim.Native.Nat.{ℕ, zero, suc, ◌+◌, ◌-◌, ◌≤◌, ◌<◌}
+use Prim.Native.Nat.{ℕ, zero, suc, ◌+◌, ◌-◌, ◌<◌}
 use native.Mathlib.Omega.{arith}
 use lib.ListN.{length, take, drop, length-drop}
 use lib.Seq.{drop-drop}
-use lib.Dec.{eqb, leb, ltb}
-use borrow.Author.Tests.{leb-true, leb-false, le-leb, lt-leb, ne_eqb}
+use lib.Dec.{eqb, ltb}
 use Rattle.text.proofs.Lists.{tail_part}
 use Rattle.tape.specs.declared.refusal.Fault.TheVariants as fault
 use Rattle.commands.specs.declared.error.CommandError.{CommandError}
 use Rattle.commands.specs.declared.error.CommandError.TheVariants as error
+use Rattle.commands.specs.declared.root.Heritage.{Heritage}
+use Rattle.commands.specs.declared.root.ScopeKind.{ScopeKind}
+use Rattle.commands.specs.declared.root.ScopeKind.TheVariants as kind
 use Rattle.commands.specs.declared.root.ScopeCommand.{ScopeCommand}
 use Rattle.commands.specs.declared.root.ScopeCommand.TheVariants as scopes
 use Rattle.commands.specs.Root.{scope_with, scope_command, heritage_command}
@@ -27,32 +29,23 @@ use Rattle.definitions.specs.Tree.{Node, Root}
 use Rattle.definitions.specs.Reading.{Scoped, in_scope, unscoped, is_function, opened, element_at, fragment_at, scopes_by, scopes_at, root_by, whole, read_root}
 use Rattle.definitions.specs.Lowering.{inside_constructor, no_super_class, can_add_self}
 use Rattle.emit.specs.declared.used.Used.{Used}
-use Rattle.emit.specs.Heads.{NodeAt, element_headed, fragment_headed, ScopesOf, HeadOf}
+use Rattle.emit.specs.Heads.{is_constructor, NodeAt, element_headed, fragment_headed, ScopesOf, HeadOf}
 use Rattle.emit.proofs.Readings.{stopped, map_done, from_done, in_part, part_short, Rest}
 
 -- ---- the first scope that is no block and no arrow
 
-inside_first : (k : ℕ) (x : Bool) → cond (leb k 1) x (eqb k 2) ≡ (eqb k 2 || (not (leb 2 k) && x))
-inside_first k x = go (leb k 1) refl
-  where
-    end : (b : Bool) → b ≡ (b || false)
-    end true = refl
-    end false = refl
-
-    go : (b : Bool) → leb k 1 ≡ b → cond b x (eqb k 2) ≡ (eqb k 2 || (not (leb 2 k) && x))
-    go true e =
-        let h : k ≤ 1 = leb-true k 1 e in
-        rw (ne_eqb k 2 (λ q. omega arith), lt-leb 2 k (omega arith))
-    go false e =
-        let h : 1 < k = leb-false k 1 e in
-        rw (le-leb 2 k (omega arith)) (end (eqb k 2))
-
-inside_more : (inside known : Bool) (k : ℕ) (ks : List ℕ) → (inside || (not known && inside_constructor (k ∷ ks)))
-    ≡ ((inside || (not known && eqb k 2)) || (not (known || is_function k) && inside_constructor ks))
+inside_first : (k : ScopeKind) (ks : List ScopeKind) → inside_constructor (k ∷ ks) ≡ (is_constructor k || (not (is_function k) && inside_constructor ks))
 unfolding inside_constructor
+inside_first kind.Block ks = refl
+inside_first kind.Arrow ks = refl
+inside_first kind.Constructor ks = refl
+inside_first kind.Function ks = refl
+
+inside_more : (inside known : Bool) (k : ScopeKind) (ks : List ScopeKind) → (inside || (not known && inside_constructor (k ∷ ks)))
+    ≡ ((inside || (not known && is_constructor k)) || (not (known || is_function k) && inside_constructor ks))
 inside_more true known k ks = refl
 inside_more false true k ks = refl
-inside_more false false k ks = inside_first k (inside_constructor ks)
+inside_more false false k ks = inside_first k ks
 
 inside_end : (inside known : Bool) → (inside || (not known && inside_constructor [])) ≡ inside
 unfolding inside_constructor
@@ -116,8 +109,8 @@ module _ {text t : List ℕ} {s : Scoped} {known inside : Bool} {t' : List ℕ} 
   at : {c : Result ScopeCommand CommandError} → scope_command known t' ≡ c → Turn l.turns text known t' c l.rest l.size
   at q = turn l.turns text known t' l.rest l.size q l.reads
 
-  pub left_scope : {k : ℕ} {t'' : List ℕ} → scope_command known t' ≡ Ok (scopes.Scope k) → t'' ≡ drop 2 t'
-      → ScopesLeft text t s (known || is_function k) (inside || (not known && eqb k 2)) t''
+  pub left_scope : {k : ScopeKind} {t'' : List ℕ} → scope_command known t' ≡ Ok (scopes.Scope k) → t'' ≡ drop 2 t'
+      → ScopesLeft text t s (known || is_function k) (inside || (not known && is_constructor k)) t''
   unfolding scopes_by
   left_scope {k} q here =
       let b = at q in
@@ -177,11 +170,11 @@ whole_done {A} {x} {u} t (done a v) e = go (ltb v (length t)) e
 whole_done t (stop f p) e = stopped e
 
 module _ (text t : List ℕ) (o : Root) (u : ℕ) (e : read_root text t ≡ done o u) where
-  by_heritage : {c : Result ℕ CommandError} → heritage_command t ≡ c → root_by t c (from 2 (scopes_at (suc (length t)) text false (drop 2 t))) ≡ done o u
+  by_heritage : {c : Result Heritage CommandError} → heritage_command t ≡ c → root_by t c (from 2 (scopes_at (suc (length t)) text false (drop 2 t))) ≡ done o u
   unfolding read_root
   by_heritage {c} q = whole_done t (root_by t c (from 2 (scopes_at (suc (length t)) text false (drop 2 t)))) (rw q at e)
 
-  pub head_of : {h : ℕ} {x : Bool} (r : Used Bool) → heritage_command t ≡ Ok h
+  pub head_of : {h : Heritage} {x : Bool} (r : Used Bool) → heritage_command t ≡ Ok h
       → ((f : ℕ) (s : Scoped) (v : ℕ) → length (take (length t - 2) (drop 2 t)) < f → scopes_at f text false (take (length t - 2) (drop 2 t)) ≡ done s v
       → ScopesOf text (take (length t - 2) (drop 2 t)) s r)
       → x ≡ (not r.value || no_super_class h) → HeadOf text t o (record { value = x; used = 2 + r.used })

@@ -1,6 +1,8 @@
 -- What stands in front of the element or fragment on a root tape, and where that stands.
-use Rattle.std.specs.Prelude.{◌≡◌, Bool, true, List, Ok, ℕ, ◌≤◌, length, drop}
+use Rattle.std.specs.Prelude.{◌≡◌, Bool, true, false, List, Ok, ℕ, ◌≤◌, length, drop}
 use Rattle.commands.specs.declared.root.Place.{Place}
+use Rattle.commands.specs.declared.root.ScopeKind.{ScopeKind}
+use Rattle.commands.specs.declared.root.ScopeKind.TheVariants as kind
 use Rattle.commands.specs.declared.root.ScopeCommand.TheVariants as scopes
 use Rattle.commands.specs.Root.{scope_command}
 use Rattle.definitions.specs.Judging.{done}
@@ -8,6 +10,12 @@ use Rattle.definitions.specs.Tree.{Node, Root}
 use Rattle.definitions.specs.Reading.{Scoped, opened, element_at, fragment_at}
 use Rattle.definitions.specs.Lowering.{inside_constructor, can_add_self}
 use Rattle.emit.specs.declared.used.Used.{Used}
+
+abbrev pub is_constructor : ScopeKind → Bool
+is_constructor kind.Block = false
+is_constructor kind.Arrow = false
+is_constructor kind.Constructor = true
+is_constructor kind.Function = false
 
 -- the element or fragment n at the front of t, read with turns enough
 pub data NodeAt (text t : List ℕ) (n : Node) : Type 0 where

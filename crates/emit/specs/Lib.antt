@@ -1,2 +1,5 @@
 pub mod Heads
 pub mod Contexts
+pub mod Outlines
+pub mod Pragmas
+pub mod Properties

@@ -4,22 +4,22 @@ ghost use Rattle.definitions.specs.Judging.{done};
 ghost use Rattle.definitions.specs.Tree.{Root};
 ghost use Rattle.definitions.specs.Reading.{Scoped, scopes_at, read_root};
 ghost use Rattle.definitions.specs.Lowering.{self_output, no_super_class};
-ghost use Rattle.pen.specs.Emitting.{Called};
+ghost use Rattle.pen.specs.Emitting.{Produced};
 ghost use Rattle.emit.specs.Contexts.{context_of};
-ghost use Rattle.emit.specs.Heads.{ScopesOf, HeadOf};
+ghost use Rattle.emit.specs.Heads.{is_constructor, ScopesOf, HeadOf};
 
 use crate::context::Context;
 use crate::used::Used;
-use commands::root::{ScopeCommand, heritage_command_at, scope_command_at};
+use commands::root::{Heritage, ScopeCommand, ScopeKind, heritage_command_at, scope_command_at};
 use commands::sizes;
 use definitions::call_tape::Bare;
-use pen::pen::{Pen, put_bare};
+use pen::pen::Pen;
 
-// The kinds of scopes that have a `this` of their own: a constructor, and from it on all functions.
-const CONSTRUCTOR: u8 = 2;
-
-// The heritage of a class that extends another.
-const EXTENDS: u8 = 2;
+fn is_constructor(kind: ScopeKind) -> bool
+    ensures { result ≡ is_constructor kind }
+{
+    matches!(kind, ScopeKind::Constructor)
+}
 
 // Whether the first scope that is no block and no arrow is a constructor. The scopes stand at the front of `tape`. Of a tape that does not read
 // nothing is promised but that no more than the tape is used.
@@ -33,8 +33,8 @@ fn is_inside_constructor(tape: &[u8]) -> Used<bool>
     loop {
         match scope_command_at(known, rest) {
             Ok(ScopeCommand::Scope(kind)) => {
-                inside = inside | (!known & (kind == CONSTRUCTOR));
-                known = known | (CONSTRUCTOR <= kind);
+                inside |= !known & is_constructor(kind);
+                known |= kind.is_function();
                 rest = &rest[sizes::WITH_KIND..];
             }
             Ok(ScopeCommand::Element(_)) => break,
@@ -49,14 +49,14 @@ fn is_inside_constructor(tape: &[u8]) -> Used<bool>
 }
 
 // The nearest class body has no heritage, or there is none.
-fn has_no_super_class(heritage: u8) -> bool
+fn has_no_super_class(heritage: Heritage) -> bool
     ensures { result ≡ no_super_class heritage }
 {
-    heritage != EXTENDS
+    !matches!(heritage, Heritage::Derived)
 }
 
 // In a constructor, `this` is not there before `super` is called.
-fn can_add_self_attribute(inside: bool, heritage: u8) -> bool
+fn can_add_self_attribute(inside: bool, heritage: Heritage) -> bool
     ensures { result ≡ (not inside || no_super_class heritage) }
 {
     !inside | has_no_super_class(heritage)
@@ -82,14 +82,10 @@ pub fn root_head(tape: &[u8]) -> Used<bool>
 }
 
 // `this`, if the plugin is on and `this` can be used where the element stands.
-pub fn self_output(context: &Context<'_>, calls: &mut [u8], pen: Pen) -> Pen
-    ensures { Called (self_output (context_of context.now)) calls.old calls.new pen result }
+pub fn self_output(context: &Context<'_>, pen: &mut Pen<'_>)
+    ensures { Produced (self_output (context_of context.now)) pen.old pen.new }
 {
-    if !context.settings.options.flags.self_plugin {
-        return pen;
+    if context.settings.options.flags.self_plugin & context.self_allowed {
+        pen.put_bare(Bare::SelfProperty);
     }
-    if !context.self_allowed {
-        return pen;
-    }
-    put_bare(calls, pen, Bare::SelfProperty)
 }

@@ -1,19 +1,19 @@
 // `__source` (jsx_source.rs).
 ghost use Rattle.std.specs.Prelude.{◌<◌};
 ghost use Rattle.definitions.specs.Lowering.{source_output};
-ghost use Rattle.pen.specs.Emitting.{Called};
+ghost use Rattle.pen.specs.Emitting.{Lent, Produced};
 ghost use Rattle.emit.specs.Contexts.{context_of};
 
 use crate::context::Context;
 use commands::root::Place;
-use pen::pen::{Pen, put_source};
+use pen::pen::Pen;
 
 // Where the element stands, if the plugin is on.
-pub fn source_output(context: &Context<'_>, calls: &mut [u8], pen: Pen, place: Place) -> Pen
-    ensures { place.line < 4294967295 → place.column < 4294967295 → Called (source_output (context_of context.now) place) calls.old calls.new pen result }
+pub fn source_output(context: &Context<'_>, place: Place, pen: &mut Pen<'_>)
+    ensures lent { Lent pen.old pen.new }
+    ensures written { place.line < 4294967295 → place.column < 4294967295 → Produced (source_output (context_of context.now) place) pen.old pen.new }
 {
     if context.settings.options.flags.source_plugin {
-        return put_source(calls, pen, place);
+        pen.put_source(place);
     }
-    pen
 }

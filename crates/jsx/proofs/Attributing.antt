@@ -1,16 +1,16 @@
 -- Attributes and keys written one at a time.
 --     value_behind_written, plain_written     an attribute's value, a plain attribute
---     plain_property, plain_passed, ..        the step that an attribute at the front is
---     AttributesLeft, left_begin, left_more, left_done    the loop over attributes
+--     goes, plain_property, plain_passed, ..  the step that an attribute at the front is
+--     AttributesLeft, left_begin, left_more, left_over, left_never    the loop over attributes
 --     key_none, key_some                      the value of the last key
 -- Assumes nothing.
 use Rattle.std.specs.Prelude.{Option, None, Some, Ok}
 use mathlib.Core.Path.{◌≡◌, refl, sym, ap, subst, ◌∙◌}
 use mathlib.Core.Bool.{Bool, true, false, cond, ◌||◌, ◌&&◌}
 use mathlib.Core.List.{List, [], ◌∷◌, ◌++◌}
-use Prim.Native.Nat.{ℕ, suc, ◌+◌, ◌-◌, ◌≤◌, ◌<◌, ◌^◌}
+use Prim.Native.Nat.{ℕ, suc, ◌+◌, ◌≤◌, ◌<◌}
 use native.Mathlib.Omega.{arith}
-use lib.ListN.{length, take, drop, length-drop}
+use lib.ListN.{length, drop}
 use lib.Dec.{eqb}
 use Rattle.text.specs.declared.spans.Span.{Span}
 use Rattle.text.specs.Bytes.{find}
@@ -26,59 +26,50 @@ use Rattle.definitions.specs.Tree.{Property, Attributes, attribute, Value}
 use Rattle.definitions.specs.Reading.{properties_at, attributes_at, value_at}
 use Rattle.definitions.specs.Lowering.{Context, Output, put, put_over, put_span, quoted, piece, colonized, is_found, is_key, has_value, key_notice, attribute_name, lower_literal, lower_attributes, lower_key, lower_value, no_key}
 use Rattle.pen.specs.declared.pen.Pen.{Pen}
-use Rattle.pen.specs.Emitting.{Called, Noticed, Produced}
+use Rattle.pen.specs.Emitting.{Produced}
+use Rattle.root_check.proofs.Behind.{part, part_length}
 use Rattle.parts.specs.declared.jsx_impl.Props.{Props}
 use Rattle.parts.specs.Promises.{LiteralWritten, some_output}
-use Rattle.jsx.specs.Parts.{Written, KeyFirst, other, first, KeyAt, without_key, key_at, KeyWithin, AttributeMoves, AttributeStep, AttributesGo, AttributesWritten}
+use Rattle.jsx.specs.Parts.{Written, Step, KeyFirst, other, first, KeyAt, without_key, key_at, KeyWithin, AttributeMoves, AttributeStep, AttributesGo, AttributesWritten}
 use Rattle.parts.proofs.Inversions.{Behind, Within, attributes_end, attributes_error, attributes_plain, attributes_namespaced, attributes_spread, attributes_literal}
-use Rattle.jsx.proofs.Writing.{none, along, called}
+use Rattle.pen.proofs.Emitting.{produced_none, produced_then}
 use Rattle.parts.specs.Promises.{starts_with, newer}
 use Rattle.parts.proofs.Ends.{attributes_over, no_attribute}
 use Rattle.jsx.proofs.Turns.{Left, left_start, left_goes, left_ends, or_assoc, or_false}
-use Rattle.jsx.proofs.Lowerings.{KeySoFar, key_start, key_goes, key_passed, property_written, classic_property}
-
--- `&t[n..]`
-abbrev pub part : ℕ → List ℕ → List ℕ
-part n t = take (length t - n) (drop n t)
-
-pub part_size : (n : ℕ) (t : List ℕ) → length (part n t) ≡ length t - n
-part_size n t = ap length (tail_part t n) ∙ length-drop n t
+use Rattle.jsx.proofs.Lowerings.{step_on, KeySoFar, key_start, key_goes, key_passed, property_written, classic_property}
 
 -- what reads n bytes behind the front reads the same in the part that is handed on
 pub in_part : {A : Type 0} (read : List ℕ → A) (n : ℕ) (t : List ℕ) {x : A} → read (drop n t) ≡ x → read (part n t) ≡ x
 in_part read n t e = ap read (tail_part t n) ∙ e
 
-pub noticed : {os : List Output} {ns ns' : List ℕ} {p p' : Pen} (cs : List ℕ) → Noticed os ns ns' p p' → Produced os cs cs ns ns' p p'
-noticed cs w a js s = w a js cs s
-
 -- ---- an attribute whose name is written: its value
 
-pub value_behind_written : (c : Context) (t : List ℕ) (n : ℕ) {cs cs' ns ns' : List ℕ} {p p' : Pen} {used : ℕ} → 1 ≤ n → n ≤ length t
+pub value_behind_written : (c : Context) (t : List ℕ) (n : ℕ) {p p' : Pen} {used : ℕ} → 1 ≤ n → n ≤ length t
     → ((f d : ℕ) (v : Value) (u : ℕ) → length (part n t) < f → value_at f c.text d (part n t) ≡ done v u
-    → Written (lower_value c v) u cs cs' ns ns' p p' used)
-    → (f d : ℕ) (v : Value) (u : ℕ) → length t ≤ f → value_at f c.text d (drop n t) ≡ done v u → Written (lower_value c v) (n + u) cs cs' ns ns' p p' (n + used)
+    → Written (lower_value c v) u p p' used)
+    → (f d : ℕ) (v : Value) (u : ℕ) → length t ≤ f → value_at f c.text d (drop n t) ≡ done v u → Written (lower_value c v) (n + u) p p' (n + used)
 value_behind_written c t n one within W f d v u h e =
-    let w = W f d v u (omega (arith, part_size n t)) (in_part (λ (l : List ℕ). value_at f c.text d l) n t e) in
+    let w = W f d v u (omega (arith, part_length n t)) (in_part (λ (l : List ℕ). value_at f c.text d l) n t e) in
     record { taken = ap (λ (q : ℕ). n + q) w.taken; wrote = w.wrote }
 
 -- ---- a plain attribute
 
 -- what the code says of a key without a value, where the value reads
-abbrev pub Notice : Context → Span → List ℕ → List ℕ → List ℕ → Pen → Pen → Type 0
-Notice c s t ns ns' p p' = (f d : ℕ) (v : Value) (u : ℕ) → value_at f c.text d t ≡ done v u → Noticed (key_notice c s v) ns ns' p p'
+abbrev pub Notice : Context → Span → List ℕ → Pen → Pen → Type 0
+Notice c s t p p' = (f d : ℕ) (v : Value) (u : ℕ) → value_at f c.text d t ≡ done v u → Produced (key_notice c s v) p p'
 
-pub plain_written : (c : Context) (t : List ℕ) (s : Span) {cs cs₁ cs₂ ns ns₁ ns₂ : List ℕ} {p p₁ p₂ p₃ : Pen} {used : ℕ} → length cs ≤ 2 ^ 63 → length ns ≤ 2 ^ 63
-    → Notice c s (part 5 t) ns ns₁ p p₁ → Called (attribute_name c s) cs cs₁ p₁ p₂
-    → ((f d : ℕ) (v : Value) (u : ℕ) → length t ≤ f → value_at f c.text d (drop 5 t) ≡ done v u → Written (lower_value c v) (5 + u) cs₁ cs₂ ns₁ ns₂ p₂ p₃ used)
+pub plain_written : (c : Context) (t : List ℕ) (s : Span) {p p₁ p₂ p₃ : Pen} {used : ℕ}
+    → Notice c s (part 5 t) p p₁ → Produced (attribute_name c s) p₁ p₂
+    → ((f d : ℕ) (v : Value) (u : ℕ) → length t ≤ f → value_at f c.text d (drop 5 t) ≡ done v u → Written (lower_value c v) (5 + u) p₂ p₃ used)
     → (f d : ℕ) (v : Value) (u : ℕ) → length t ≤ f → value_at f c.text d (drop 5 t) ≡ done v u
-    → Written (key_notice c s v ++ attribute_name c s ++ lower_value c v) (5 + u) cs cs₂ ns ns₂ p p₃ used
-plain_written c t s {cs} {ns₁ = ns₁} short short' N A W f d v u h e =
+    → Written (key_notice c s v ++ attribute_name c s ++ lower_value c v) (5 + u) p p₃ used
+plain_written c t s N A W f d v u h e =
     let w = W f d v u h e in
     record {
       taken = w.taken;
       wrote =
-          along short short'
-          (along short short' (noticed cs (N f d v u (in_part (λ (l : List ℕ). value_at f c.text d l) 5 t e))) (called ns₁ A))
+          produced_then
+          (produced_then (N f d v u (in_part (λ (l : List ℕ). value_at f c.text d l) 5 t e)) A)
           w.wrote;
     }
 
@@ -112,52 +103,22 @@ some_plain c s v = sym (some_behind (key_notice c s v ++ attribute_name c s) (lo
 
 -- ---- the step that an attribute at the front is
 
-module _ (c : Context) (classic : Bool) (d : ℕ) (t : List ℕ) {cs cs' ns ns' : List ℕ} {p : Pen} {f u : ℕ} {a : Attributes} (r : Props) where
-  -- what was read by parts, the rest behind the bytes that are passed
-  goes_within : {B : Type 0} {inner : ℕ → List ℕ → Parsed B} {g : B → Attributes → Attributes} {m : ℕ}
-      (W : Within inner (λ h l. attributes_at h c.text d l) t f a u m g) → r.used ≡ m + W.took → (os : List Output)
-      → lower_attributes c classic (g W.part W.rest) ≡ os ++ lower_attributes c classic W.rest → r.some ≡ some_output os
-      → KeyFirst c d t r.key W.fuel (g W.part W.rest) W.rest → Produced os cs cs' ns ns' p r.pen
-      → AttributeStep c classic d t cs cs' ns ns' p r f a u
-  goes_within {m = m} W n os o s k w =
-      let out : lower_attributes c classic a ≡ os ++ lower_attributes c classic W.rest = ap (lower_attributes c classic) W.is ∙ o in
-      record {
-        fuel = W.fuel;
-        turns = W.turns;
-        rest = W.rest;
-        size = W.size;
-        reads = ap (λ (q : ℕ). attributes_at W.fuel c.text d (drop q t)) n ∙ W.reads;
-        used = W.used ∙ ap (λ (q : ℕ). q + W.size) (sym n);
-        output = os;
-        outs = out;
-        goes = (
-          ap some_output out ∙ some_append os (lower_attributes c classic W.rest) ∙ ap (λ (b : Bool). b || some_output (lower_attributes c classic W.rest)) (sym s),
-          subst (λ (x : Attributes). KeyFirst c d t r.key W.fuel x W.rest) (sym W.is) k,
-        );
-        wrote = w;
-      }
+module _ (c : Context) (classic : Bool) (d : ℕ) (t : List ℕ) {p p' : Pen} {f u : ℕ} {a : Attributes} (r : Props) where
+  -- what was read, the rest behind the bytes that are passed
+  goes : {g : Attributes → Attributes} {m : ℕ} (B : Behind (λ h l. attributes_at h c.text d l) t f a u m g) → r.used ≡ m → (os : List Output)
+      → lower_attributes c classic (g B.rest) ≡ os ++ lower_attributes c classic B.rest → r.some ≡ some_output os
+      → KeyFirst c d t r.key B.fuel (g B.rest) B.rest → Produced os p p'
+      → AttributeStep c classic d t p p' r f a u
+  goes B n os o s k w =
+      let step =
+      step_on (λ h l. attributes_at h c.text d l) (lower_attributes c classic) (AttributesGo c classic d r) t B os o
+      (ap some_output o ∙ some_append os (lower_attributes c classic B.rest) ∙ ap (λ (b : Bool). b || some_output (lower_attributes c classic B.rest)) (sym s), k) w in
+      subst (λ (q : ℕ). Step (λ h l. attributes_at h c.text d l) (lower_attributes c classic) (AttributesGo c classic d r) t p p' q f a u) (sym n) step
 
-  goes_behind : {g : Attributes → Attributes} {m : ℕ} (W : Behind (λ h l. attributes_at h c.text d l) t f a u m g) → r.used ≡ m → (os : List Output)
-      → lower_attributes c classic (g W.rest) ≡ os ++ lower_attributes c classic W.rest → r.some ≡ some_output os
-      → KeyFirst c d t r.key W.fuel (g W.rest) W.rest → Produced os cs cs' ns ns' p r.pen
-      → AttributeStep c classic d t cs cs' ns ns' p r f a u
-  goes_behind {m = m} W n os o s k w =
-      let out : lower_attributes c classic a ≡ os ++ lower_attributes c classic W.rest = ap (lower_attributes c classic) W.is ∙ o in
-      record {
-        fuel = W.fuel;
-        turns = W.turns;
-        rest = W.rest;
-        size = W.size;
-        reads = ap (λ (q : ℕ). attributes_at W.fuel c.text d (drop q t)) n ∙ W.reads;
-        used = W.used ∙ ap (λ (q : ℕ). q + W.size) (sym n);
-        output = os;
-        outs = out;
-        goes = (
-          ap some_output out ∙ some_append os (lower_attributes c classic W.rest) ∙ ap (λ (b : Bool). b || some_output (lower_attributes c classic W.rest)) (sym s),
-          subst (λ (x : Attributes). KeyFirst c d t r.key W.fuel x W.rest) (sym W.is) k,
-        );
-        wrote = w;
-      }
+-- the first of a list was read by a reader of its own
+abbrev whole : {A B : Type 0} {inner : ℕ → List ℕ → Parsed B} {read : ℕ → List ℕ → Parsed A} {t : List ℕ} {f u m : ℕ} {x : A} {g : B → A → A}
+    (W : Within inner read t f x u m g) → Behind read t f x u (m + W.took) (g W.part)
+whole W = record { fuel = W.fuel; turns = W.turns; rest = W.rest; size = W.size; is = W.is; reads = W.reads; used = W.used }
 
 -- a key with a value, or none
 module _ (c : Context) (s : Span) (v : Value) (b : Attributes) (os : List Output) where
@@ -190,96 +151,87 @@ key_at_most used k e h = subst (KeyWithin used) (sym e) h
 pub facts_moves : {len n : ℕ} {key : Option ℕ} (r : Props) → Facts len n key r → 1 ≤ n → KeyWithin r.used key → AttributeMoves len r
 facts_moves r F one h = (F.3, omega (arith, F.2), key_at_most r.used r.key F.0 h)
 
-pub passed_moves : (t : List ℕ) {p : Pen} {took : ℕ} (r : Props) → r ≡ record { pen = p; used = 5 + took; some = false; key = Some 5 } → 5 ≤ length t
-    → took ≤ length (part 5 t) → AttributeMoves (length t) r
-passed_moves t {took = took} r e five h = rw e (omega (arith, part_size 5 t), omega arith, omega arith)
-
-pub unread_moves : {len : ℕ} {p : Pen} (r : Props) → r ≡ record { pen = p; used = len; some = false; key = None } → 1 ≤ len → AttributeMoves len r
-unread_moves r e one = rw e (omega arith, one, tt)
-
-abbrev pub PlainWritten : Context → List ℕ → Span → List ℕ → List ℕ → List ℕ → List ℕ → Pen → Props → Type 0
-PlainWritten c t s cs cs' ns ns' p r =
+abbrev pub PlainWritten : Context → List ℕ → Span → Pen → Pen → Props → Type 0
+PlainWritten c t s p p' r =
     (f d : ℕ) (v : Value) (u : ℕ) → length t ≤ f → value_at f c.text d (drop 5 t) ≡ done v u
-    → Written (key_notice c s v ++ attribute_name c s ++ lower_value c v) (5 + u) cs cs' ns ns' p r.pen r.used
+    → Written (key_notice c s v ++ attribute_name c s ++ lower_value c v) (5 + u) p p' r.used
 
 module _ (c : Context) (classic : Bool) (t : List ℕ) (s : Span) (front : attribute_command t ≡ Ok (attributes.Plain s)) (valued : Bool) (K : Valued c t s valued)
-    {cs cs' ns ns' : List ℕ} {p : Pen} (r : Props) where
+    {p p' : Pen} (r : Props) where
   -- a key with a value in a classic call
-  pub plain_key : valued ≡ true → classic ≡ true → {len : ℕ} → Facts len 5 (Some 5) r → PlainWritten c t s cs cs' ns ns' p r
-      → (f d : ℕ) (a : Attributes) (u : ℕ) → length t < f → attributes_at f c.text d t ≡ done a u → AttributeStep c classic d t cs cs' ns ns' p r f a u
+  pub plain_key : valued ≡ true → classic ≡ true → {len : ℕ} → Facts len 5 (Some 5) r → PlainWritten c t s p p' r
+      → (f d : ℕ) (a : Attributes) (u : ℕ) → length t < f → attributes_at f c.text d t ≡ done a u → AttributeStep c classic d t p p' r f a u
   plain_key so cl F P f d a u h e =
       let W = attributes_plain c.text t d f s front e in
       let w = P W.fuel d W.part W.took (omega (arith, W.turns)) W.part_reads in
       let valued_key : (is_key c s && has_value W.part) ≡ true =
       sym (K W.fuel d W.part W.took (in_part (λ (l : List ℕ). value_at W.fuel c.text d l) 5 t W.part_reads)) ∙ so in
-      goes_within c classic d t r W w.taken (key_notice c s W.part ++ attribute_name c s ++ lower_value c W.part)
+      goes c classic d t r (whole W) w.taken (key_notice c s W.part ++ attribute_name c s ++ lower_value c W.part)
       (classic_property c classic s W.part W.rest cl) (F.1 ∙ some_plain c s W.part)
       (first 5 W.part W.took F.0 (omega arith) W.part_reads
       (λ os. key_valued c s W.part W.rest os valued_key))
       w.wrote
 
   -- no key with a value
-  pub plain_property : valued ≡ false → {len : ℕ} → Facts len 5 None r → PlainWritten c t s cs cs' ns ns' p r
-      → (f d : ℕ) (a : Attributes) (u : ℕ) → length t < f → attributes_at f c.text d t ≡ done a u → AttributeStep c classic d t cs cs' ns ns' p r f a u
+  pub plain_property : valued ≡ false → {len : ℕ} → Facts len 5 None r → PlainWritten c t s p p' r
+      → (f d : ℕ) (a : Attributes) (u : ℕ) → length t < f → attributes_at f c.text d t ≡ done a u → AttributeStep c classic d t p p' r f a u
   plain_property so F P f d a u h e =
       let W = attributes_plain c.text t d f s front e in
       let w = P W.fuel d W.part W.took (omega (arith, W.turns)) W.part_reads in
       let un_key : (is_key c s && has_value W.part) ≡ false =
       sym (K W.fuel d W.part W.took (in_part (λ (l : List ℕ). value_at W.fuel c.text d l) 5 t W.part_reads)) ∙ so in
-      goes_within c classic d t r W w.taken (key_notice c s W.part ++ attribute_name c s ++ lower_value c W.part)
+      goes c classic d t r (whole W) w.taken (key_notice c s W.part ++ attribute_name c s ++ lower_value c W.part)
       (property_written c classic s W.part W.rest un_key) (F.1 ∙ some_plain c s W.part) (other F.0 (λ os. key_unvalued c s W.part W.rest os un_key))
       w.wrote
 
 module _ (c : Context) (classic : Bool) (t : List ℕ) (s : Span) (front : attribute_command t ≡ Ok (attributes.Plain s)) (valued : Bool) (K : Valued c t s valued)
-    {cs ns : List ℕ} {p : Pen} {took : ℕ} (r : Props) (is : r ≡ record { pen = p; used = 5 + took; some = false; key = Some 5 }) where
+    {p : Pen} {took : ℕ} where
   -- a key with a value in an automatic call is no property
   pub plain_passed : valued ≡ true → classic ≡ false → 5 ≤ length t
       → ((f : ℕ) (text : List ℕ) (d : ℕ) (v : Value) (u : ℕ) → length (part 5 t) < f → value_at f text d (part 5 t) ≡ done v u → took ≡ u)
-      → (f d : ℕ) (a : Attributes) (u : ℕ) → length t < f → attributes_at f c.text d t ≡ done a u → AttributeStep c classic d t cs cs ns ns p r f a u
+      → (f d : ℕ) (a : Attributes) (u : ℕ) → length t < f → attributes_at f c.text d t ≡ done a u → AttributeStep c classic d t p p (record { used = 5 + took; some = false; key = Some 5 }) f a u
   unfolding some_output
   plain_passed so cl five S f d a u h e =
       let W = attributes_plain c.text t d f s front e in
       let reads : value_at W.fuel c.text d (part 5 t) ≡ done W.part W.took = in_part (λ (l : List ℕ). value_at W.fuel c.text d l) 5 t W.part_reads in
       let valued_key : (is_key c s && has_value W.part) ≡ true = sym (K W.fuel d W.part W.took reads) ∙ so in
-      let n : took ≡ W.took = S W.fuel c.text d W.part W.took (omega (arith, W.turns, part_size 5 t)) reads in
-      let step : AttributeStep c classic d t cs cs ns ns p (record { pen = p; used = 5 + took; some = false; key = Some 5 }) f a u =
-      goes_within c classic d t (record { pen = p; used = 5 + took; some = false; key = Some 5 }) W (ap (λ (q : ℕ). 5 + q) n) []
+      let n : took ≡ W.took = S W.fuel c.text d W.part W.took (omega (arith, W.turns, part_length 5 t)) reads in
+      goes c classic d t (record { used = 5 + took; some = false; key = Some 5 }) (whole W) (ap (λ (q : ℕ). 5 + q) n) []
       (key_passed c classic s W.part W.rest valued_key cl) refl
       (first 5 W.part W.took refl (omega arith) W.part_reads (λ os. key_valued c s W.part W.rest os valued_key))
-      (none cs ns p) in
-      subst (λ (q : Props). AttributeStep c classic d t cs cs ns ns p q f a u) (sym is) step
+      (produced_none p)
 
 module _ (c : Context) (classic : Bool) (t : List ℕ) where
-  pub namespaced_step : (s z : Span) → attribute_command t ≡ Ok (attributes.Namespaced s z) → {cs cs₁ cs₂ cs₃ ns ns' : List ℕ} {p p₁ p₂ : Pen} → length cs ≤ 2 ^ 63
-      → length ns ≤ 2 ^ 63 → Called (put bare.StringName) cs cs₁ p p₁ → Called (colonized s z) cs₁ cs₂ p₁ p₂ → (r : Props) {len : ℕ} → Facts len 9 None r
+  pub namespaced_step : (s z : Span) → attribute_command t ≡ Ok (attributes.Namespaced s z) → {p p₁ p₂ p₃ : Pen}
+      → Produced (put bare.StringName) p p₁ → Produced (colonized s z) p₁ p₂ → (r : Props) {len : ℕ} → Facts len 9 None r
       → ((f d : ℕ) (v : Value) (u : ℕ) → length t ≤ f → value_at f c.text d (drop 9 t) ≡ done v u
-      → Written (lower_value c v) (9 + u) cs₂ cs₃ ns ns' p₂ r.pen r.used)
-      → (f d : ℕ) (a : Attributes) (u : ℕ) → length t < f → attributes_at f c.text d t ≡ done a u → AttributeStep c classic d t cs cs₃ ns ns' p r f a u
+      → Written (lower_value c v) (9 + u) p₂ p₃ r.used)
+      → (f d : ℕ) (a : Attributes) (u : ℕ) → length t < f → attributes_at f c.text d t ≡ done a u → AttributeStep c classic d t p p₃ r f a u
   unfolding lower_attributes lower_key some_output
-  namespaced_step s z front {ns = ns} short short' N C r F P f d a u h e =
+  namespaced_step s z front N C r F P f d a u h e =
       let W = attributes_namespaced c.text t d f s z front e in
       let w = P W.fuel d W.part W.took (omega (arith, W.turns)) W.part_reads in
-      goes_within c classic d t r W w.taken (put bare.StringName ++ colonized s z ++ lower_value c W.part) refl F.1 (other F.0 (λ os. refl))
-      (along short short' (along short short' (called ns N) (called ns C)) w.wrote)
+      goes c classic d t r (whole W) w.taken (put bare.StringName ++ colonized s z ++ lower_value c W.part) refl F.1 (other F.0 (λ os. refl))
+      (produced_then (produced_then N C) w.wrote)
 
-  pub spread_step : (x : ℕ) → attribute_command t ≡ Ok (attributes.Spread x) → {cs cs' ns : List ℕ} {p : Pen} (q : Pen) → Called (put_over with_expression.SpreadProperty x) cs cs' p q
+  pub spread_step : (x : ℕ) → attribute_command t ≡ Ok (attributes.Spread x) → {p p' : Pen} → Produced (put_over with_expression.SpreadProperty x) p p'
       → (f d : ℕ) (a : Attributes) (u : ℕ) → length t < f → attributes_at f c.text d t ≡ done a u
-      → AttributeStep c classic d t cs cs' ns ns p (record { pen = q; used = 3; some = true; key = None }) f a u
+      → AttributeStep c classic d t p p' (record { used = 3; some = true; key = None }) f a u
   unfolding lower_attributes lower_key some_output
-  spread_step x front {ns = ns} q w f d a u h e =
+  spread_step x front w f d a u h e =
       let W = attributes_spread c.text t d f x front e in
-      goes_behind c classic d t (record { pen = q; used = 3; some = true; key = None }) W refl (put_over with_expression.SpreadProperty x) refl refl
-      (other refl (λ os. refl)) (called ns w)
+      goes c classic d t (record { used = 3; some = true; key = None }) W refl (put_over with_expression.SpreadProperty x) refl refl
+      (other refl (λ os. refl)) w
 
-  pub literal_step : (x : ℕ) → attribute_command t ≡ Ok (attributes.Literal x) → {cs cs' ns : List ℕ} {p : Pen} (r : Props) → r.key ≡ None
+  pub literal_step : (x : ℕ) → attribute_command t ≡ Ok (attributes.Literal x) → {p p' : Pen} (r : Props) → r.key ≡ None
       → ((f : ℕ) (ps : List Property) (u : ℕ) → length t ≤ f → properties_at f c.text (drop 3 t) ≡ done ps u
-      → LiteralWritten (lower_literal c x ps) (3 + u) cs cs' p r)
-      → (f d : ℕ) (a : Attributes) (u : ℕ) → length t < f → attributes_at f c.text d t ≡ done a u → AttributeStep c classic d t cs cs' ns ns p r f a u
+      → LiteralWritten (lower_literal c x ps) (3 + u) p p' r)
+      → (f d : ℕ) (a : Attributes) (u : ℕ) → length t < f → attributes_at f c.text d t ≡ done a u → AttributeStep c classic d t p p' r f a u
   unfolding lower_attributes lower_key
-  literal_step x front {ns = ns} r k L f d a u h e =
+  literal_step x front r k L f d a u h e =
       let W = attributes_literal c.text t d f x front e in
       let w = L W.fuel W.part W.took (omega (arith, W.turns)) W.part_reads in
-      goes_within c classic d t r W w.taken (lower_literal c x W.part) refl w.flagged (other k (λ os. refl)) (called ns w.wrote)
+      goes c classic d t r (whole W) w.taken (lower_literal c x W.part) refl w.flagged (other k (λ os. refl)) w.wrote
 
 -- ---- the loop over attributes
 
@@ -288,28 +240,28 @@ pub record Gathered (c : Context) (classic : Bool) (d : ℕ) (t : List ℕ) (a :
   pub flags : some_output (lower_attributes c classic a) ≡ (some || some_output (lower_attributes c classic rest))
   pub keys : (given : List Output) → KeySoFar c d t a given key rest
 
-abbrev pub AttributesLeft : Context → Bool → ℕ → List ℕ → Attributes → ℕ → List ℕ → List ℕ → List ℕ → List ℕ → Pen → Pen → ℕ → Bool → Option ℕ → Type 0
-AttributesLeft c classic d t a u cs₀ cs ns₀ ns p₀ p i some key =
-    Left (λ g l. attributes_at g c.text d l) (lower_attributes c classic) (Gathered c classic d t a some key) t a u cs₀ cs ns₀ ns p₀ p i
+abbrev pub AttributesLeft : Context → Bool → ℕ → List ℕ → Attributes → ℕ → Pen → Pen → ℕ → Bool → Option ℕ → Type 0
+AttributesLeft c classic d t a u p₀ p i some key =
+    Left (λ g l. attributes_at g c.text d l) (lower_attributes c classic) (Gathered c classic d t a some key) t a u p₀ p i
 
-pub left_begin : (c : Context) (classic : Bool) (t cs ns : List ℕ) (p : Pen) (f d : ℕ) (a : Attributes) (u : ℕ) → length t < f → attributes_at f c.text d t ≡ done a u
-    → AttributesLeft c classic d t a u cs cs ns ns p p 0 false None
-left_begin c classic t cs ns p f d a u h e =
-    left_start (λ g l. attributes_at g c.text d l) (lower_attributes c classic) t f a u cs ns p h e (record { flags = refl; keys = λ given. key_start c d t a given })
+pub left_begin : (c : Context) (classic : Bool) (t : List ℕ) (p : Pen) (f d : ℕ) (a : Attributes) (u : ℕ) → length t < f → attributes_at f c.text d t ≡ done a u
+    → AttributesLeft c classic d t a u p p 0 false None
+left_begin c classic t p f d a u h e =
+    left_start (λ g l. attributes_at g c.text d l) (lower_attributes c classic) t f a u p h e (record { flags = refl; keys = λ given. key_start c d t a given })
 
 pub key_within : (len i : ℕ) (key k : Option ℕ) (used : ℕ) {now : Option ℕ} → KeyWithin len key → KeyWithin used k → i + used ≤ len → now ≡ newer i k key → KeyWithin len now
 unfolding newer
 key_within len i key (Some k) used kept h n e = rw e (omega arith)
 key_within len i key None used kept h n e = rw e kept
 
-module _ (c : Context) (classic : Bool) (t : List ℕ) {cs₀ cs ns₀ ns : List ℕ} {p₀ p : Pen} {i : ℕ} {some : Bool} {key : Option ℕ} (within : i ≤ length t) where
-  pub left_more : {cs₁ ns₁ : List ℕ} {now : Option ℕ} (r : Props) → length cs₀ ≤ 2 ^ 63 → length ns₀ ≤ 2 ^ 63
+module _ (c : Context) (classic : Bool) (t : List ℕ) {p₀ p : Pen} {i : ℕ} {some : Bool} {key : Option ℕ} (within : i ≤ length t) where
+  pub left_more : {p₁ : Pen} {now : Option ℕ} (r : Props)
       → ((f d : ℕ) (a : Attributes) (u : ℕ) → length (part i t) < f → attributes_at f c.text d (part i t) ≡ done a u
-      → AttributeStep c classic d (part i t) cs cs₁ ns ns₁ p r f a u)
-      → now ≡ newer i r.key key → 1 ≤ r.used → (d : ℕ) (a : Attributes) (u : ℕ) → AttributesLeft c classic d t a u cs₀ cs ns₀ ns p₀ p i some key
-      → AttributesLeft c classic d t a u cs₀ cs₁ ns₀ ns₁ p₀ r.pen (i + r.used) (some || r.some) now
-  left_more {now = now} r short short' step newest pos d a u R =
-      left_goes (λ g l. attributes_at g c.text d l) (lower_attributes c classic) t (part i t) (tail_part t i) (λ f a u. step f d a u) short short' within R pos keep
+      → AttributeStep c classic d (part i t) p p₁ r f a u)
+      → now ≡ newer i r.key key → 1 ≤ r.used → (d : ℕ) (a : Attributes) (u : ℕ) → AttributesLeft c classic d t a u p₀ p i some key
+      → AttributesLeft c classic d t a u p₀ p₁ (i + r.used) (some || r.some) now
+  left_more {now = now} r step newest pos d a u R =
+      left_goes (λ g l. attributes_at g c.text d l) (lower_attributes c classic) t (part i t) (tail_part t i) (λ f a u. step f d a u) within R pos keep
     where
       keep : (f : ℕ) (y z : Attributes) → length t < i + suc f → AttributesGo c classic d r (drop i t) f y z → Gathered c classic d t a some key y
           → Gathered c classic d t a (some || r.some) now z
@@ -319,8 +271,8 @@ module _ (c : Context) (classic : Bool) (t : List ℕ) {cs₀ cs ns₀ ns : List
       }
 
   -- the end, seen by its first byte
-  pub left_over : starts_with 0x1e (part i t) ≡ true → (d : ℕ) (a : Attributes) (u : ℕ) → AttributesLeft c classic d t a u cs₀ cs ns₀ ns p₀ p i some key
-      → AttributesWritten c classic d t a u cs₀ cs ns₀ ns p₀ (record { pen = p; used = i + 1; some = some; key = key })
+  pub left_over : starts_with 0x1e (part i t) ≡ true → (d : ℕ) (a : Attributes) (u : ℕ) → AttributesLeft c classic d t a u p₀ p i some key
+      → AttributesWritten c classic d t a u p₀ p (record { used = i + 1; some = some; key = key })
   unfolding lower_attributes some_output lower_key
   left_over over d a u R =
       let z =
@@ -336,25 +288,25 @@ module _ (c : Context) (classic : Bool) (t : List ℕ) {cs₀ cs ns₀ ns : List
       }
 
   -- a tape that reads goes on to the end
-  pub left_never : {A : Type 0} → length (part i t) ≡ 0 → (d : ℕ) (a : Attributes) (u : ℕ) → AttributesLeft c classic d t a u cs₀ cs ns₀ ns p₀ p i some key → A
+  pub left_never : {A : Type 0} → length (part i t) ≡ 0 → (d : ℕ) (a : Attributes) (u : ℕ) → AttributesLeft c classic d t a u p₀ p i some key → A
   left_never empty d a u R =
       absurd
       (attributes_error c.text (part i t) d R.fuel (no_attribute (part i t) empty) (in_part (λ (l : List ℕ). attributes_at R.fuel c.text d l) i t R.reads))
 
 -- ---- the value of the last key
 
-pub key_none : {c : Context} {t cs cs' ns : List ℕ} {p p' : Pen} (key : Option ℕ) → key ≡ None → Called (no_key c) cs cs' p p' → (d : ℕ) (os : List Output)
-    → KeyAt c d t (no_key c) key os → Produced os cs cs' ns ns p p'
-key_none {ns = ns} key z w d os without_key = called ns w
+pub key_none : {c : Context} {t : List ℕ} {p p' : Pen} (key : Option ℕ) → key ≡ None → Produced (no_key c) p p' → (d : ℕ) (os : List Output)
+    → KeyAt c d t (no_key c) key os → Produced os p p'
+key_none key z w d os without_key = w
 key_none key z w d os (key_at q g u v enough reads) = let z : ◌≡◌ {A = ℕ} 0 1 = cc in absurd (omega arith)
 
-pub key_some : {c : Context} {t cs cs₁ cs₂ ns ns₁ : List ℕ} {p p₁ p₂ : Pen} {used : ℕ} (at : ℕ) (key : Option ℕ) → key ≡ Some at → at ≤ length t → length cs ≤ 2 ^ 63 → length ns ≤ 2 ^ 63
-    → Called (put bare.Key) cs cs₁ p p₁
-    → ((f d : ℕ) (v : Value) (u : ℕ) → length (part at t) < f → value_at f c.text d (part at t) ≡ done v u → Written (lower_value c v) u cs₁ cs₂ ns ns₁ p₁ p₂ used)
-    → (d : ℕ) (os : List Output) → KeyAt c d t (no_key c) key os → Produced os cs cs₂ ns ns₁ p p₂
-key_some at key z within short short' w W d os without_key = let z : ◌≡◌ {A = ℕ} 0 1 = cc in absurd (omega arith)
-key_some {c} {t} {ns = ns} at key z within short short' w W d os (key_at q g u v enough reads) =
+pub key_some : {c : Context} {t : List ℕ} {p p₁ p₂ : Pen} {used : ℕ} (at : ℕ) (key : Option ℕ) → key ≡ Some at → at ≤ length t
+    → Produced (put bare.Key) p p₁
+    → ((f d : ℕ) (v : Value) (u : ℕ) → length (part at t) < f → value_at f c.text d (part at t) ≡ done v u → Written (lower_value c v) u p₁ p₂ used)
+    → (d : ℕ) (os : List Output) → KeyAt c d t (no_key c) key os → Produced os p p₂
+key_some at key z within w W d os without_key = let z : ◌≡◌ {A = ℕ} 0 1 = cc in absurd (omega arith)
+key_some {c} {t} at key z within w W d os (key_at q g u v enough reads) =
     let e : q ≡ at = cc in
     let here : value_at g c.text d (drop at t) ≡ done v u = ap (λ (n : ℕ). value_at g c.text d (drop n t)) (sym e) ∙ reads in
-    along short short' (called ns w)
-    (W g d v u (omega (arith, part_size at t, e)) (in_part (λ (l : List ℕ). value_at g c.text d l) at t here)).wrote
+    produced_then w
+    (W g d v u (omega (arith, part_length at t, e)) (in_part (λ (l : List ℕ). value_at g c.text d l) at t here)).wrote

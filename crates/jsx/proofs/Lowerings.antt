@@ -4,7 +4,7 @@ use Rattle.std.specs.Prelude.{Option, None, Some, Ok}
 use mathlib.Core.Path.{◌≡◌, refl, sym, ap, subst, ◌∙◌}
 use mathlib.Core.Bool.{Bool, true, false, cond, not, ◌||◌, ◌&&◌}
 use mathlib.Core.List.{List, [], ◌∷◌, ◌++◌, append_assoc}
-use Prim.Native.Nat.{ℕ, suc, ◌+◌, ◌≤◌, ◌<◌, ◌^◌}
+use Prim.Native.Nat.{ℕ, suc, ◌+◌, ◌<◌}
 use native.Mathlib.Omega.{arith}
 use lib.ListN.{length, drop}
 use lib.Seq.{drop-drop}
@@ -23,53 +23,53 @@ use Rattle.definitions.specs.JsxText.{jsx_text}
 use Rattle.definitions.specs.Lowering.{Context, Output, put, put_byte, put_over, piece, quoted, callee_named, pure_byte, closing, classic_call, classic_element, is_classic, automatic_call, automatic_name, children_property, form_of, static_children, object_of, survivors, has_spread, some_line, lower_text, is_key, has_value, key_notice, attribute_name, lower_attributes, lower_key, lower_node, lower_value, lower_children}
 use Rattle.definitions.specs.Store.{create_element}
 use Rattle.pen.specs.declared.pen.Pen.{Pen}
-use Rattle.pen.specs.Emitting.{Called, Produced}
+use Rattle.pen.specs.Emitting.{Produced}
 use Rattle.parts.specs.Promises.{some_output, newer}
 use Rattle.jsx.specs.Parts.{Written, KeyFirst, other, first, KeyAt, without_key, key_at, children_object, Step, classic_call_of, automatic_element, classic_properties, classic_fragment, automatic_fragment}
 use Rattle.parts.proofs.Inversions.{Behind, value_absent, value_empty, value_expression, value_text}
-use Rattle.jsx.proofs.Writing.{along, called, being}
+use Rattle.pen.proofs.Emitting.{produced_then, produced_as}
 
 -- ---- values
 
-module _ (c : Context) (text t : List ℕ) (f d : ℕ) (v : Value) (u : ℕ) (e : value_at f text d t ≡ done v u) {cs cs' : List ℕ} {p p' : Pen} (ns : List ℕ) where
-  pub absent_written : value_command t ≡ Ok values.Absent → Called (put bare.LiteralTrue) cs cs' p p' → Written (lower_value c v) u cs cs' ns ns p p' 1
+module _ (c : Context) (text t : List ℕ) (f d : ℕ) (v : Value) (u : ℕ) (e : value_at f text d t ≡ done v u) {p p' : Pen} where
+  pub absent_written : value_command t ≡ Ok values.Absent → Produced (put bare.LiteralTrue) p p' → Written (lower_value c v) u p p' 1
   unfolding lower_value
   absent_written k w =
       let r = value_absent text t d f k e in
-      record { taken = sym r.1; wrote = being (sym (ap (lower_value c) r.0)) (called ns w) }
+      record { taken = sym r.1; wrote = produced_as (sym (ap (lower_value c) r.0)) w }
 
-  pub empty_written : value_command t ≡ Ok values.Empty → Called (put bare.LiteralTrue) cs cs' p p' → Written (lower_value c v) u cs cs' ns ns p p' 1
+  pub empty_written : value_command t ≡ Ok values.Empty → Produced (put bare.LiteralTrue) p p' → Written (lower_value c v) u p p' 1
   unfolding lower_value
   empty_written k w =
       let r = value_empty text t d f k e in
-      record { taken = sym r.1; wrote = being (sym (ap (lower_value c) r.0)) (called ns w) }
+      record { taken = sym r.1; wrote = produced_as (sym (ap (lower_value c) r.0)) w }
 
-  pub text_written : (s : Span) → value_command t ≡ Ok (values.Text s) → Called (quoted (piece s)) cs cs' p p' → Written (lower_value c v) u cs cs' ns ns p p' 5
+  pub text_written : (s : Span) → value_command t ≡ Ok (values.Text s) → Produced (quoted (piece s)) p p' → Written (lower_value c v) u p p' 5
   unfolding lower_value
   text_written s k w =
       let r = value_text text t d f s k e in
-      record { taken = sym r.1; wrote = being (sym (ap (lower_value c) r.0)) (called ns w) }
+      record { taken = sym r.1; wrote = produced_as (sym (ap (lower_value c) r.0)) w }
 
-  pub expression_written : (x : ℕ) → value_command t ≡ Ok (values.Expression x) → Called (put_over with_expression.Expression x) cs cs' p p'
-      → Written (lower_value c v) u cs cs' ns ns p p' 3
+  pub expression_written : (x : ℕ) → value_command t ≡ Ok (values.Expression x) → Produced (put_over with_expression.Expression x) p p'
+      → Written (lower_value c v) u p p' 3
   unfolding lower_value
   expression_written x k w =
       let r = value_expression text t d f x k e in
-      record { taken = sym r.1; wrote = being (sym (ap (lower_value c) r.0)) (called ns w) }
+      record { taken = sym r.1; wrote = produced_as (sym (ap (lower_value c) r.0)) w }
 
 -- an element or a fragment, behind its command of nine bytes
-pub node_written : (c : Context) {v : Value} {n : Node} {u took used : ℕ} {cs cs' ns ns' : List ℕ} {p p' : Pen} → v ≡ node_value n → u ≡ 9 + took
-    → Written (lower_node c n) took cs cs' ns ns' p p' used → Written (lower_value c v) u cs cs' ns ns' p p' (9 + used)
+pub node_written : (c : Context) {v : Value} {n : Node} {u took used : ℕ} {p p' : Pen} → v ≡ node_value n → u ≡ 9 + took
+    → Written (lower_node c n) took p p' used → Written (lower_value c v) u p p' (9 + used)
 unfolding lower_value
-node_written c i h w = record { taken = ap (λ (q : ℕ). 9 + q) w.taken ∙ sym h; wrote = being (sym (ap (lower_value c) i)) w.wrote }
+node_written c i h w = record { taken = ap (λ (q : ℕ). 9 + q) w.taken ∙ sym h; wrote = produced_as (sym (ap (lower_value c) i)) w.wrote }
 
 -- ---- one of a list
 
 module _ {A : Type 0} (read : ℕ → List ℕ → Parsed A) (out : A → List Output) (Goes : List ℕ → ℕ → A → A → Type 0) (t : List ℕ)
-    {cs cs' ns ns' : List ℕ} {p p' : Pen} {f u : ℕ} {x : A} where
+    {p p' : Pen} {f u : ℕ} {x : A} where
   -- it goes on behind n bytes: the list is g of the rest
   pub step_on : {n : ℕ} {g : A → A} (B : Behind read t f x u n g) (os : List Output) → out (g B.rest) ≡ os ++ out B.rest
-      → Goes t B.fuel (g B.rest) B.rest → Produced os cs cs' ns ns' p p' → Step read out Goes t cs cs' ns ns' p p' n f x u
+      → Goes t B.fuel (g B.rest) B.rest → Produced os p p' → Step read out Goes t p p' n f x u
   step_on {n} {g} B os h m w = record {
     fuel = B.fuel;
     turns = B.turns;
@@ -86,45 +86,45 @@ module _ {A : Type 0} (read : ℕ → List ℕ → Parsed A) (out : A → List O
 -- ---- calls
 
 -- the end of a call: its tag, its callee and whether it is pure
-module _ (c : Context) {cs₀ ns₀ : List ℕ} (short : length cs₀ ≤ 2 ^ 63) (short' : length ns₀ ≤ 2 ^ 63) where
-  pub closing_written : (n : ℕ) {front tag : List Output} {cs₁ cs₂ cs₃ cs₄ ns₁ ns₂ : List ℕ} {p₀ p₁ p₂ p₃ p₄ : Pen}
-      → Produced front cs₀ cs₁ ns₀ ns₁ p₀ p₁ → Called (put bare.Tag) cs₁ cs₂ p₁ p₂ → Produced tag cs₂ cs₃ ns₁ ns₂ p₂ p₃
-      → Called (put bare.Callee ++ callee_named c.settings.mode n ++ put_byte with_byte.CallEnd (pure_byte c.settings.pure)) cs₃ cs₄ p₃ p₄
-      → Produced (front ++ closing c tag n) cs₀ cs₄ ns₀ ns₂ p₀ p₄
-  closing_written n {front} {tag} {ns₁ = ns₁} {ns₂} v t w z =
-      being (simp append_assoc) (along short short' (along short short' (along short short' v (called ns₁ t)) w) (called ns₂ z))
+module _ (c : Context) where
+  pub closing_written : (n : ℕ) {front tag : List Output} {p₀ p₁ p₂ p₃ p₄ : Pen}
+      → Produced front p₀ p₁ → Produced (put bare.Tag) p₁ p₂ → Produced tag p₂ p₃
+      → Produced (put bare.Callee ++ callee_named c.settings.mode n ++ put_byte with_byte.CallEnd (pure_byte c.settings.pure)) p₃ p₄
+      → Produced (front ++ closing c tag n) p₀ p₄
+  closing_written n {front} {tag} v t w z =
+      produced_as (simp append_assoc) (produced_then (produced_then (produced_then v t) w) z)
 
   -- a classic call
-  pub classic_written : {argument items tag : List Output} {cs₁ cs₂ cs₃ cs₄ cs₅ cs₆ ns₁ ns₂ ns₃ : List ℕ} {p₀ p₁ p₂ p₃ p₄ p₅ p₆ : Pen}
-      → Called (put_byte with_byte.Call 0) cs₀ cs₁ p₀ p₁ → Produced argument cs₁ cs₂ ns₀ ns₁ p₁ p₂ → Produced items cs₂ cs₃ ns₁ ns₂ p₂ p₃
-      → Called (put bare.Tag) cs₃ cs₄ p₃ p₄ → Produced tag cs₄ cs₅ ns₂ ns₃ p₄ p₅
-      → Called (put bare.Callee ++ callee_named c.settings.mode create_element ++ put_byte with_byte.CallEnd (pure_byte c.settings.pure)) cs₅ cs₆ p₅ p₆
-      → Produced (classic_call c argument items tag) cs₀ cs₆ ns₀ ns₃ p₀ p₆
+  pub classic_written : {argument items tag : List Output} {p₀ p₁ p₂ p₃ p₄ p₅ p₆ : Pen}
+      → Produced (put_byte with_byte.Call 0) p₀ p₁ → Produced argument p₁ p₂ → Produced items p₂ p₃
+      → Produced (put bare.Tag) p₃ p₄ → Produced tag p₄ p₅
+      → Produced (put bare.Callee ++ callee_named c.settings.mode create_element ++ put_byte with_byte.CallEnd (pure_byte c.settings.pure)) p₅ p₆
+      → Produced (classic_call c argument items tag) p₀ p₆
   unfolding classic_call
-  classic_written b a i t w z = closing_written create_element (along short short' (along short short' (called ns₀ b) a) i) t w z
+  classic_written b a i t w z = closing_written create_element (produced_then (produced_then b a) i) t w z
 
   -- an automatic call
-  pub automatic_written : (k : Children) {properties key added tag : List Output} {cs₁ cs₂ cs₃ cs₄ cs₅ cs₆ cs₇ cs₈ cs₉ cs₁₀ ns₁ ns₂ ns₃ ns₄ ns₅ : List ℕ}
+  pub automatic_written : (k : Children) {properties key added tag : List Output}
       {p₀ p₁ p₂ p₃ p₄ p₅ p₆ p₇ p₈ p₉ p₁₀ : Pen}
-      → Called (put_byte with_byte.Call 1) cs₀ cs₁ p₀ p₁ → Called (put bare.ObjectBegin) cs₁ cs₂ p₁ p₂ → Produced properties cs₂ cs₃ ns₀ ns₁ p₂ p₃
-      → Produced (children_object c k) cs₃ cs₄ ns₁ ns₂ p₃ p₄ → Produced key cs₄ cs₅ ns₂ ns₃ p₄ p₅ → Called (static_children c (survivors c k)) cs₅ cs₆ p₅ p₆
-      → Produced added cs₆ cs₇ ns₃ ns₄ p₆ p₇ → Called (put bare.Tag) cs₇ cs₈ p₇ p₈ → Produced tag cs₈ cs₉ ns₄ ns₅ p₈ p₉
-      → Called (put bare.Callee ++ callee_named c.settings.mode (automatic_name c (survivors c k)) ++ put_byte with_byte.CallEnd (pure_byte c.settings.pure))
-      cs₉ cs₁₀ p₉ p₁₀
-      → Produced (automatic_call c properties k (lower_children c k) key added tag) cs₀ cs₁₀ ns₀ ns₅ p₀ p₁₀
+      → Produced (put_byte with_byte.Call 1) p₀ p₁ → Produced (put bare.ObjectBegin) p₁ p₂ → Produced properties p₂ p₃
+      → Produced (children_object c k) p₃ p₄ → Produced key p₄ p₅ → Produced (static_children c (survivors c k)) p₅ p₆
+      → Produced added p₆ p₇ → Produced (put bare.Tag) p₇ p₈ → Produced tag p₈ p₉
+      → Produced (put bare.Callee ++ callee_named c.settings.mode (automatic_name c (survivors c k)) ++ put_byte with_byte.CallEnd (pure_byte c.settings.pure))
+      p₉ p₁₀
+      → Produced (automatic_call c properties k (lower_children c k) key added tag) p₀ p₁₀
   unfolding automatic_call children_object
-  automatic_written k {properties} {key} {added} {tag} {cs₃ = cs₃} {cs₄} {ns₁ = ns₁} {ns₂} {ns₃} {p₃ = p₃} {p₄} b o ps ks q st ad t w z =
-      let inside : Produced (children_property (survivors c k) (form_of (survivors c k) (has_spread k)) (lower_children c k) ++ put bare.ObjectEnd) cs₃ cs₄ ns₁ ns₂ p₃ p₄ =
+  automatic_written k {properties} {key} {added} {tag} {p₃ = p₃} {p₄} b o ps ks q st ad t w z =
+      let inside : Produced (children_property (survivors c k) (form_of (survivors c k) (has_spread k)) (lower_children c k) ++ put bare.ObjectEnd) p₃ p₄ =
       ks in
       let front = (put_byte with_byte.Call 1 ++ put bare.ObjectBegin) ++ properties in
       let items = children_property (survivors c k) (form_of (survivors c k) (has_spread k)) (lower_children c k) in
       closing_written (automatic_name c (survivors c k))
-      (along short short'
-      (along short short'
-      (along short short'
-      (being (sym (append_assoc front items (put bare.ObjectEnd))) (along short short' (along short short' (along short short' (called ns₀ b) (called ns₀ o)) ps) inside))
+      (produced_then
+      (produced_then
+      (produced_then
+      (produced_as (sym (append_assoc front items (put bare.ObjectEnd))) (produced_then (produced_then (produced_then b o) ps) inside))
       q)
-      (called ns₃ st))
+      st)
       ad)
       t w z
 
@@ -176,6 +176,7 @@ module _ (c : Context) (p : Place) (n : Name) (a : Attributes) (k : Children) wh
   unfolding lower_node automatic_element
   element_automatic h = rw h refl
 
+module _ (c : Context) (p : Place) (k : Children) where
   pub fragment_classic : is_classic c.settings.mode ≡ true → lower_node c (fragment p k) ≡ classic_fragment c k
   unfolding lower_node classic_fragment
   fragment_classic h = rw h refl

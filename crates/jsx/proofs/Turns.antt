@@ -1,9 +1,10 @@
 -- A loop over a list on the tape: what is written so far, and what is left. One law for each way that a turn goes.
 -- Assumes nothing.
+use Rattle.std.specs.Prelude.{Result, Ok}
 use mathlib.Core.Path.{◌≡◌, refl, sym, ap, subst, ◌∙◌}
 use mathlib.Core.Bool.{Bool, true, false, ◌||◌}
 use mathlib.Core.List.{List, [], ◌++◌, append-nil, append_assoc}
-use Prim.Native.Nat.{ℕ, suc, ◌+◌, ◌≤◌, ◌<◌, ◌^◌}
+use Prim.Native.Nat.{ℕ, suc, ◌+◌, ◌≤◌, ◌<◌}
 use native.Mathlib.Omega.{arith}
 use lib.ListN.{length, drop, length-drop}
 use lib.Seq.{drop-drop}
@@ -12,10 +13,10 @@ use Rattle.definitions.specs.Lowering.{Output}
 use Rattle.pen.specs.declared.pen.Pen.{Pen}
 use Rattle.pen.specs.Emitting.{Produced}
 use Rattle.jsx.specs.Parts.{Step}
-use Rattle.jsx.proofs.Writing.{none, along, being}
+use Rattle.pen.proofs.Emitting.{produced_none, produced_then, produced_as}
 
 pub record Left {A : Type 0} (read : ℕ → List ℕ → Parsed A) (out : A → List Output) (K : A → Type 0) (t : List ℕ) (x : A) (u : ℕ)
-    (cs₀ cs ns₀ ns : List ℕ) (p₀ p : Pen) (i : ℕ) : Type 0 where
+    (p₀ p : Pen) (i : ℕ) : Type 0 where
   pub fuel : ℕ
   pub rest : A
   pub size : ℕ
@@ -24,24 +25,24 @@ pub record Left {A : Type 0} (read : ℕ → List ℕ → Parsed A) (out : A →
   pub used : u ≡ i + size
   pub sofar : List Output
   pub outs : out x ≡ sofar ++ out rest
-  pub wrote : Produced sofar cs₀ cs ns₀ ns p₀ p
+  pub wrote : Produced sofar p₀ p
   pub also : K rest
 
 module _ {A : Type 0} (read : ℕ → List ℕ → Parsed A) (out : A → List Output) (t : List ℕ) where
-  pub left_start : {K : A → Type 0} (f : ℕ) (x : A) (u : ℕ) (cs ns : List ℕ) (p : Pen) → length t < f → read f t ≡ done x u → K x
-      → Left read out K t x u cs cs ns ns p p 0
-  left_start f x u cs ns p h e k =
-      record { fuel = f; rest = x; size = u; enough = omega arith; reads = e; used = omega arith; sofar = []; outs = refl; wrote = none cs ns p; also = k }
+  pub left_start : {K : A → Type 0} (f : ℕ) (x : A) (u : ℕ) (p : Pen) → length t < f → read f t ≡ done x u → K x
+      → Left read out K t x u p p 0
+  left_start f x u p h e k =
+      record { fuel = f; rest = x; size = u; enough = omega arith; reads = e; used = omega arith; sofar = []; outs = refl; wrote = produced_none p; also = k }
 
-  module _ {Goes : List ℕ → ℕ → A → A → Type 0} {x : A} {u : ℕ} {cs₀ cs cs₁ ns₀ ns ns₁ : List ℕ} {p₀ p p₁ : Pen} {i n : ℕ} (q : List ℕ) (here : q ≡ drop i t)
-      (step : (f : ℕ) (y : A) (v : ℕ) → length q < f → read f q ≡ done y v → Step read out Goes q cs cs₁ ns ns₁ p p₁ n f y v)
-      (short : length cs₀ ≤ 2 ^ 63) (short' : length ns₀ ≤ 2 ^ 63) (within : i ≤ length t) where
-    pub left_goes : {K K' : A → Type 0} → Left read out K t x u cs₀ cs ns₀ ns p₀ p i → 1 ≤ n
+  module _ {Goes : List ℕ → ℕ → A → A → Type 0} {x : A} {u : ℕ} {p₀ p p₁ : Pen} {i n : ℕ} (q : List ℕ) (here : q ≡ drop i t)
+      (step : (f : ℕ) (y : A) (v : ℕ) → length q < f → read f q ≡ done y v → Step read out Goes q p p₁ n f y v)
+      (within : i ≤ length t) where
+    pub left_goes : {K K' : A → Type 0} → Left read out K t x u p₀ p i → 1 ≤ n
         → ((f : ℕ) (y z : A) → length t < i + suc f → Goes (drop i t) f y z → K y → K' z)
-        → Left read out K' t x u cs₀ cs₁ ns₀ ns₁ p₀ p₁ (i + n)
+        → Left read out K' t x u p₀ p₁ (i + n)
     left_goes R pos keep =
-        let S : Step read out Goes (drop i t) cs cs₁ ns ns₁ p p₁ n R.fuel R.rest R.size =
-        subst (λ (l : List ℕ). Step read out Goes l cs cs₁ ns ns₁ p p₁ n R.fuel R.rest R.size) here
+        let S : Step read out Goes (drop i t) p p₁ n R.fuel R.rest R.size =
+        subst (λ (l : List ℕ). Step read out Goes l p p₁ n R.fuel R.rest R.size) here
         (step R.fuel R.rest R.size (omega (arith, R.enough, ap length here, length-drop i t)) (ap (λ (l : List ℕ). read R.fuel l) here ∙ R.reads)) in
         record {
           fuel = S.fuel;
@@ -52,14 +53,14 @@ module _ {A : Type 0} (read : ℕ → List ℕ → Parsed A) (out : A → List O
           used = omega (arith, R.used, S.used);
           sofar = R.sofar ++ S.output;
           outs = R.outs ∙ ap (λ (l : List Output). R.sofar ++ l) S.outs ∙ sym (append_assoc R.sofar S.output (out S.rest));
-          wrote = along short short' R.wrote S.wrote;
+          wrote = produced_then R.wrote S.wrote;
           also = keep S.fuel R.rest S.rest (omega (arith, R.enough, S.turns)) S.goes R.also;
         }
 
   -- nothing is left
-  pub left_ends : {K : A → Type 0} {x : A} {u : ℕ} {cs₀ cs ns₀ ns : List ℕ} {p₀ p : Pen} {i : ℕ} (R : Left read out K t x u cs₀ cs ns₀ ns p₀ p i) → out R.rest ≡ []
-      → Produced (out x) cs₀ cs ns₀ ns p₀ p
-  left_ends R e = being (sym (R.outs ∙ ap (λ (l : List Output). R.sofar ++ l) e ∙ append-nil R.sofar)) R.wrote
+  pub left_ends : {K : A → Type 0} {x : A} {u : ℕ} {p₀ p : Pen} {i : ℕ} (R : Left read out K t x u p₀ p i) → out R.rest ≡ []
+      → Produced (out x) p₀ p
+  left_ends R e = produced_as (sym (R.outs ∙ ap (λ (l : List Output). R.sofar ++ l) e ∙ append-nil R.sofar)) R.wrote
 
 -- ---- flags put together on the way
 
@@ -73,3 +74,7 @@ or_false false = refl
 
 pub clash : {A : Type 0} → false ≡ true → A
 clash e = let z : ◌≡◌ {A = ℕ} 0 1 = cc in absurd (omega arith)
+
+-- what a match tells in an arm: the command that was read there
+pub arm : {A E : Type 0} {r r' : Result A E} {x y : A} → r ≡ r' → r ≡ Ok x → x ≡ y → r' ≡ Ok y
+arm e h i = sym e ∙ h ∙ ap Ok i

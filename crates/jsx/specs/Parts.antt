@@ -11,11 +11,13 @@ use Rattle.pen.specs.Emitting.{Produced}
 use Rattle.parts.specs.declared.jsx_impl.Items.{Items}
 use Rattle.parts.specs.declared.jsx_impl.Props.{Props}
 use Rattle.parts.specs.Promises.{some_output}
+use Rattle.jsx.specs.declared.jsx_impl.Form.{Form}
+use Rattle.jsx.specs.declared.jsx_impl.Form.TheVariants as form
 
 -- the output os is written, and u bytes of the tape are passed
-pub record Written (os : List Output) (u : ℕ) (cs cs' ns ns' : List ℕ) (p p' : Pen) (used : ℕ) : Type 0 where
+pub record Written (os : List Output) (u : ℕ) (p p' : Pen) (used : ℕ) : Type 0 where
   pub taken : used ≡ u
-  pub wrote : Produced os cs cs' ns ns' p p'
+  pub wrote : Produced os p p'
 
 -- one can be added to the line and to the column
 pub record Countable (p : Place) : Type 0 where
@@ -26,7 +28,7 @@ pub record Countable (p : Place) : Type 0 where
 
 -- t is read as the list x, which takes u bytes: one stands at the front, of n bytes, whose output is written, and the rest behind it
 pub record Step {A : Type 0} (read : ℕ → List ℕ → Parsed A) (out : A → List Output) (Goes : List ℕ → ℕ → A → A → Type 0)
-    (t cs cs' ns ns' : List ℕ) (p p' : Pen) (n f : ℕ) (x : A) (u : ℕ) : Type 0 where
+    (t : List ℕ) (p p' : Pen) (n f : ℕ) (x : A) (u : ℕ) : Type 0 where
   pub fuel : ℕ
   pub turns : f ≡ suc fuel
   pub rest : A
@@ -36,7 +38,7 @@ pub record Step {A : Type 0} (read : ℕ → List ℕ → Parsed A) (out : A →
   pub output : List Output
   pub outs : out x ≡ output ++ out rest
   pub goes : Goes t fuel x rest
-  pub wrote : Produced output cs cs' ns ns' p p'
+  pub wrote : Produced output p p'
 
 -- ---- children
 
@@ -47,17 +49,22 @@ abbrev pub ChildrenGo : Context → Items → List ℕ → ℕ → Children → 
 ChildrenGo c r t f k l = (survivors c k ≡ r.count + survivors c l) × (has_spread k ≡ (r.spread || has_spread l))
 
 -- the child at the front, and those behind it
-abbrev pub ChildStep : Context → ℕ → List ℕ → List ℕ → List ℕ → List ℕ → List ℕ → Pen → Items → ℕ → Children → ℕ → Type 0
-ChildStep c d t cs cs' ns ns' p r f k u =
-    Step (λ g l. children_at g c.text d l) (lower_children c) (ChildrenGo c r) t cs cs' ns ns' p r.pen r.used f k u
+abbrev pub ChildStep : Context → ℕ → List ℕ → Pen → Pen → Items → ℕ → Children → ℕ → Type 0
+ChildStep c d t p p' r f k u =
+    Step (λ g l. children_at g c.text d l) (lower_children c) (ChildrenGo c r) t p p' r.used f k u
 
-pub record ChildrenWritten (c : Context) (k : Children) (os : List Output) (u : ℕ) (cs cs' ns ns' : List ℕ) (p : Pen) (r : Items) : Type 0 where
+pub record ChildrenWritten (c : Context) (k : Children) (os : List Output) (u : ℕ) (p p' : Pen) (r : Items) : Type 0 where
   pub taken : r.used ≡ u
   pub counted : r.count ≡ survivors c k
   pub spreads : r.spread ≡ has_spread k
-  pub wrote : Produced os cs cs' ns ns' p r.pen
+  pub wrote : Produced os p p'
 
 -- ---- attributes
+
+-- a form, as the definition's flag
+abbrev pub is_classic_form : Form → Bool
+is_classic_form form.Classic = true
+is_classic_form form.Automatic = false
 
 -- a key that was found stands within so many bytes
 abbrev pub KeyWithin : ℕ → Option ℕ → Type 0
@@ -84,15 +91,15 @@ AttributesGo c classic d r t f a b =
     (some_output (lower_attributes c classic a) ≡ (r.some || some_output (lower_attributes c classic b))) × KeyFirst c d t r.key f a b
 
 -- the attribute at the front, and those behind it
-abbrev pub AttributeStep : Context → Bool → ℕ → List ℕ → List ℕ → List ℕ → List ℕ → List ℕ → Pen → Props → ℕ → Attributes → ℕ → Type 0
-AttributeStep c classic d t cs cs' ns ns' p r f a u =
-    Step (λ g l. attributes_at g c.text d l) (lower_attributes c classic) (AttributesGo c classic d r) t cs cs' ns ns' p r.pen r.used f a u
+abbrev pub AttributeStep : Context → Bool → ℕ → List ℕ → Pen → Pen → Props → ℕ → Attributes → ℕ → Type 0
+AttributeStep c classic d t p p' r f a u =
+    Step (λ g l. attributes_at g c.text d l) (lower_attributes c classic) (AttributesGo c classic d r) t p p' r.used f a u
 
-pub record AttributesWritten (c : Context) (classic : Bool) (d : ℕ) (t : List ℕ) (a : Attributes) (u : ℕ) (cs cs' ns ns' : List ℕ) (p : Pen) (r : Props) : Type 0 where
+pub record AttributesWritten (c : Context) (classic : Bool) (d : ℕ) (t : List ℕ) (a : Attributes) (u : ℕ) (p p' : Pen) (r : Props) : Type 0 where
   pub taken : r.used ≡ u
   pub flagged : r.some ≡ some_output (lower_attributes c classic a)
   pub keyed : (other : List Output) → KeyAt c d t other r.key (lower_key c a other)
-  pub wrote : Produced (lower_attributes c classic a) cs cs' ns ns' p r.pen
+  pub wrote : Produced (lower_attributes c classic a) p p'
 
 -- ---- elements
 

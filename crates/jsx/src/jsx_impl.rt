@@ -1,4 +1,5 @@
 // From a root tape that was checked to calls and notices (jsx_impl.rs). A tape that does not read gives nothing of use: it has been refused before.
+// kept: a part that does not read gives some number of bytes and no error. The tape was checked before, and these functions cannot fail: an error would have no reader.
 ghost use Rattle.std.specs.Prelude.{◌≡◌, length, drop, true, false, List, ◌++◌, ℕ, suc, ◌+◌, ◌≤◌, ◌<◌, Option, None};
 ghost use Rattle.text.specs.Utf8.{first_ill};
 ghost use Rattle.definitions.specs.Judging.{done};
@@ -6,11 +7,11 @@ ghost use Rattle.commands.specs.declared.root.Place as places;
 ghost use Rattle.definitions.specs.Tree.{Name, Root, Node, Attributes, Value, Children};
 ghost use Rattle.definitions.specs.Reading.{element_at, fragment_at, attributes_at, value_at, children_at, read_root};
 ghost use Rattle.definitions.specs.Lowering.{Output, key_notice, attribute_name, object_of, lone_spread_or, no_key, lower_node, lower_value, lower_children, lower_root};
-ghost use Rattle.pen.specs.Emitting.{Produced};
+ghost use Rattle.pen.specs.Emitting.{Lent, Produced};
 ghost use Rattle.emit.specs.Contexts.{context_of};
 ghost use Rattle.emit.specs.Heads.{NodeAt};
 ghost use Rattle.parts.specs.Promises.{starts_with};
-ghost use Rattle.jsx.specs.Parts.{Written, Countable, KeyWithin, AttributeMoves, ChildMoves, ChildStep, ChildrenWritten, AttributeStep, AttributesWritten, KeyAt, Parts, children_object, automatic_element, classic_properties, classic_call_of, classic_fragment, automatic_fragment};
+ghost use Rattle.jsx.specs.Parts.{Written, is_classic_form, Countable, KeyWithin, AttributeMoves, ChildMoves, ChildStep, ChildrenWritten, AttributeStep, AttributesWritten, KeyAt, Parts, children_object, automatic_element, classic_properties, classic_call_of, classic_fragment, automatic_fragment};
 
 use commands::root::{
     AttributeCommand, ChildCommand, Place, ScopeCommand, ValueCommand, attribute_command_at,
@@ -27,28 +28,27 @@ use emit::jsx_impl::{
 };
 use emit::jsx_self::{root_head, self_output};
 use emit::jsx_source::source_output;
-use emit::used::Used;
 use parts::jsx_impl::{
     Items, Props, children_form, has_more, is_classic, is_classic_element, is_valued_key,
     key_notice, literal_attribute, lone_spread, newer, passed, skip_name, starts_with,
     transform_jsx_text,
 };
-use pen::pen::{Pen, put_bare, put_byte, put_over};
-use pen::strings::{put_namespaced, put_string};
+use pen::pen::Pen;
 use root_check::skip::skip_value;
 use text::spans::Span;
 
-// The two forms of a call, as its begin tells them.
-const CLASSIC: u8 = 0;
-
-const AUTOMATIC: u8 = 1;
+// The two forms of a call, by the numbers that its begin tells.
+#[derive(Clone, Copy)]
+enum Form {
+    Classic = 0,
+    Automatic = 1,
+}
 
 // No child, but bytes that are passed.
-fn unread(pen: Pen, used: usize) -> Items
-    ensures { result ≡ record { pen = pen; used = used; count = 0; spread = false } }
+fn unread(used: usize) -> Items
+    ensures { result ≡ record { used = used; count = 0; spread = false } }
 {
     Items {
-        pen,
         used,
         count: 0,
         spread: false,
@@ -59,53 +59,37 @@ fn unread(pen: Pen, used: usize) -> Items
 
 // A value of an attribute.
 #[cycle(lowering)]
-fn transform_jsx_attribute_value(
-    context: &Context<'_>,
-    tape: &[u8],
-    calls: &mut [u8],
-    notices: &mut [u8],
-    pen: Pen,
-) -> Used<Pen>
-    ensures used_in_bounds { result.used ≤ length tape.now }
-    ensures written { (f d : ℕ) (v : Value) (u : ℕ) → length tape.now < f → value_at f context.now.text.now d tape.now ≡ done v u → Written (lower_value (context_of context.now) v) u calls.old calls.new notices.old notices.new pen result.value result.used }
+fn transform_jsx_attribute_value(context: &Context<'_>, tape: &[u8], pen: &mut Pen<'_>) -> usize
+    ensures lent { Lent pen.old pen.new }
+    ensures used_in_bounds { result ≤ length tape.now }
+    ensures written { (f d : ℕ) (v : Value) (u : ℕ) → length tape.now < f → value_at f context.now.text.now d tape.now ≡ done v u → Written (lower_value (context_of context.now) v) u pen.old pen.new result }
 {
     match value_command_at(tape) {
-        Ok(ValueCommand::Absent) => Used {
-            value: put_bare(calls, pen, Bare::LiteralTrue),
-            used: sizes::BARE,
-        },
-        Ok(ValueCommand::Text(span)) => Used {
-            value: put_string(calls, pen, span),
-            used: sizes::WITH_SPAN,
-        },
-        Ok(ValueCommand::Expression(e)) => Used {
-            value: put_over(calls, pen, WithExpression::Expression, e),
-            used: sizes::WITH_EXPRESSION,
-        },
-        Ok(ValueCommand::Empty) => Used {
-            value: put_bare(calls, pen, Bare::LiteralTrue),
-            used: sizes::BARE,
-        },
+        Ok(ValueCommand::Absent) => {
+            pen.put_bare(Bare::LiteralTrue);
+            sizes::BARE
+        }
+        Ok(ValueCommand::Empty) => {
+            pen.put_bare(Bare::LiteralTrue);
+            sizes::BARE
+        }
+        Ok(ValueCommand::Text(span)) => {
+            pen.put_string(span);
+            sizes::WITH_SPAN
+        }
+        Ok(ValueCommand::Expression(e)) => {
+            pen.put_over(WithExpression::Expression, e);
+            sizes::WITH_EXPRESSION
+        }
         Ok(ValueCommand::Element(place)) => {
             let inside = &tape[sizes::WITH_PLACE..];
-            let node = transform_jsx(context, inside, place, calls, notices, pen);
-            Used {
-                used: sizes::WITH_PLACE + node.used,
-                ..node
-            }
+            sizes::WITH_PLACE + transform_jsx(context, inside, place, pen)
         }
         Ok(ValueCommand::Fragment(_)) => {
             let inside = &tape[sizes::WITH_PLACE..];
-            let node = fragment(context, inside, calls, notices, pen);
-            Used {
-                used: sizes::WITH_PLACE + node.used,
-                ..node
-            }
+            sizes::WITH_PLACE + fragment(context, inside, pen)
         }
-        Err(_) => Used {
-            value: pen,
-            used: 0,
-        },
+        Err(_) => 0,
     }
 }
 
@@ -115,19 +99,16 @@ fn behind(
     context: &Context<'_>,
     tape: &[u8],
     n: usize,
-    calls: &mut [u8],
-    notices: &mut [u8],
-    pen: Pen,
     key: Option<usize>,
+    pen: &mut Pen<'_>,
 ) -> Props
     requires { (1 ≤ n) × (n ≤ length tape.now) }
+    ensures lent { Lent pen.old pen.new }
     ensures property { (result.key ≡ key) × (result.some ≡ true) × (n ≤ result.used) × (result.used ≤ length tape.now) }
-    ensures written { (f d : ℕ) (v : Value) (u : ℕ) → length tape.now ≤ f → value_at f context.now.text.now d (drop n tape.now) ≡ done v u → Written (lower_value (context_of context.now) v) (n + u) calls.old calls.new notices.old notices.new pen result.pen result.used }
+    ensures written { (f d : ℕ) (v : Value) (u : ℕ) → length tape.now ≤ f → value_at f context.now.text.now d (drop n tape.now) ≡ done v u → Written (lower_value (context_of context.now) v) (n + u) pen.old pen.new result.used }
 {
-    let value = transform_jsx_attribute_value(context, &tape[n..], calls, notices, pen);
     Props {
-        pen: value.value,
-        used: n + value.used,
+        used: n + transform_jsx_attribute_value(context, &tape[n..], pen),
         some: true,
         key,
     }
@@ -139,105 +120,84 @@ fn plain(
     context: &Context<'_>,
     tape: &[u8],
     span: Span,
-    calls: &mut [u8],
-    notices: &mut [u8],
-    pen: Pen,
     key: Option<usize>,
+    pen: &mut Pen<'_>,
 ) -> Props
     requires { 5 ≤ length tape.now }
+    ensures lent { Lent pen.old pen.new }
     ensures property { (result.key ≡ key) × (result.some ≡ true) × (5 ≤ result.used) × (result.used ≤ length tape.now) }
-    ensures written { (f d : ℕ) (v : Value) (u : ℕ) → length tape.now ≤ f → value_at f context.now.text.now d (drop 5 tape.now) ≡ done v u → Written (key_notice (context_of context.now) span v ++ attribute_name (context_of context.now) span ++ lower_value (context_of context.now) v) (5 + u) calls.old calls.new notices.old notices.new pen result.pen result.used }
+    ensures written { (f d : ℕ) (v : Value) (u : ℕ) → length tape.now ≤ f → value_at f context.now.text.now d (drop 5 tape.now) ≡ done v u → Written (key_notice (context_of context.now) span v ++ attribute_name (context_of context.now) span ++ lower_value (context_of context.now) v) (5 + u) pen.old pen.new result.used }
 {
-    let told = key_notice(context, span, &tape[sizes::WITH_SPAN..], notices, pen);
-    let named = get_attribute_name(context, calls, told, span);
-    behind(context, tape, sizes::WITH_SPAN, calls, notices, named, key)
+    key_notice(context, span, &tape[sizes::WITH_SPAN..], pen);
+    get_attribute_name(context, span, pen);
+    behind(context, tape, sizes::WITH_SPAN, key, pen)
 }
 
 // The attribute at the front, where the attributes don't end. In an automatic call a key with a value is no property: its place is told. What does not
 // read is passed to its end.
 #[cycle(lowering)]
-fn attribute(
-    context: &Context<'_>,
-    classic: bool,
-    tape: &[u8],
-    calls: &mut [u8],
-    notices: &mut [u8],
-    pen: Pen,
-) -> Props
+fn attribute(context: &Context<'_>, form: Form, tape: &[u8], pen: &mut Pen<'_>) -> Props
     requires some { 1 ≤ length tape.now }
     requires not_over { starts_with 0x1e tape.now ≡ false }
+    ensures lent { Lent pen.old pen.new }
     ensures moves { AttributeMoves (length tape.now) result }
-    ensures step { (f d : ℕ) (a : Attributes) (u : ℕ) → length tape.now < f → attributes_at f context.now.text.now d tape.now ≡ done a u → AttributeStep (context_of context.now) classic d tape.now calls.old calls.new notices.old notices.new pen result f a u }
+    ensures step { (f d : ℕ) (a : Attributes) (u : ℕ) → length tape.now < f → attributes_at f context.now.text.now d tape.now ≡ done a u → AttributeStep (context_of context.now) (is_classic_form form) d tape.now pen.old pen.new result f a u }
 {
     match attribute_command_at(tape) {
         Ok(AttributeCommand::Plain(span)) => {
             let value = &tape[sizes::WITH_SPAN..];
             if !is_valued_key(context, span, value) {
-                return plain(context, tape, span, calls, notices, pen, None);
+                return plain(context, tape, span, None, pen);
             }
             let key = Some(sizes::WITH_SPAN);
-            if classic {
-                return plain(context, tape, span, calls, notices, pen, key);
+            match form {
+                Form::Classic => plain(context, tape, span, key, pen),
+                Form::Automatic => passed(sizes::WITH_SPAN + skip_value(value), key),
             }
-            passed(pen, sizes::WITH_SPAN + skip_value(value), key)
         }
         Ok(AttributeCommand::Namespaced(namespace, name)) => {
-            let named = put_bare(calls, pen, Bare::StringName);
-            let begun = put_namespaced(calls, named, namespace, name);
-            let size = sizes::WITH_SPANS;
-            behind(context, tape, size, calls, notices, begun, None)
+            pen.put_bare(Bare::StringName);
+            pen.put_namespaced(namespace, name);
+            behind(context, tape, sizes::WITH_SPANS, None, pen)
         }
-        Ok(AttributeCommand::Spread(e)) => Props {
-            pen: put_over(calls, pen, WithExpression::SpreadProperty, e),
-            used: sizes::WITH_EXPRESSION,
-            some: true,
-            key: None,
-        },
-        Ok(AttributeCommand::Literal(e)) => literal_attribute(context, tape, calls, pen, e),
-        Ok(AttributeCommand::End) => passed(pen, tape.len(), None),
-        Err(_) => passed(pen, tape.len(), None),
+        Ok(AttributeCommand::Spread(e)) => {
+            pen.put_over(WithExpression::SpreadProperty, e);
+            Props {
+                used: sizes::WITH_EXPRESSION,
+                some: true,
+                key: None,
+            }
+        }
+        Ok(AttributeCommand::Literal(e)) => literal_attribute(context, e, tape, pen),
+        Ok(AttributeCommand::End) => passed(tape.len(), None),
+        Err(_) => passed(tape.len(), None),
     }
 }
 
 // The attributes up to the 1e.
 #[cycle(lowering)]
-fn attrs(
-    context: &Context<'_>,
-    classic: bool,
-    tape: &[u8],
-    calls: &mut [u8],
-    notices: &mut [u8],
-    pen: Pen,
-) -> Props
+fn attrs(context: &Context<'_>, form: Form, tape: &[u8], pen: &mut Pen<'_>) -> Props
+    ensures lent { Lent pen.old pen.new }
     ensures within { (result.used ≤ length tape.now) × KeyWithin (length tape.now) result.key }
-    ensures written { (f d : ℕ) (a : Attributes) (u : ℕ) → length tape.now < f → attributes_at f context.now.text.now d tape.now ≡ done a u → AttributesWritten (context_of context.now) classic d tape.now a u calls.old calls.new notices.old notices.new pen result }
+    ensures written { (f d : ℕ) (a : Attributes) (u : ℕ) → length tape.now < f → attributes_at f context.now.text.now d tape.now ≡ done a u → AttributesWritten (context_of context.now) (is_classic_form form) d tape.now a u pen.old pen.new result }
 {
-    // kept: (d) a place is what is told here, of the end and of the last key, so it stays beside what is left
+    // kept: a place is what is told here, of the end and of the last key, so it stays beside what is left
     let mut i: usize = 0;
-    let mut next = pen;
     let mut some = false;
     let mut key = None;
     loop {
         let rest = &tape[i..];
-        // the end is no step, which would copy the pen
         if starts_with(rest, codes::END_ATTRIBUTES) {
             return Props {
-                pen: next,
                 used: i + sizes::BARE,
                 some,
                 key,
             };
         }
         if rest.is_empty() {
-            return Props {
-                pen: next,
-                used: i,
-                some,
-                key,
-            };
+            return Props { used: i, some, key };
         }
-        let step = attribute(context, classic, rest, calls, notices, next);
-        next = step.pen;
+        let step = attribute(context, form, rest, pen);
         key = newer(i, step.key, key);
         some = some | step.some;
         i = i + step.used;
@@ -246,84 +206,67 @@ fn attrs(
 
 // The child at the front, where the children don't end. What does not read is passed to its end.
 #[cycle(lowering)]
-fn transform_jsx_child(
-    context: &Context<'_>,
-    tape: &[u8],
-    calls: &mut [u8],
-    notices: &mut [u8],
-    pen: Pen,
-) -> Items
+fn transform_jsx_child(context: &Context<'_>, tape: &[u8], pen: &mut Pen<'_>) -> Items
     requires some { 1 ≤ length tape.now }
     requires not_over { starts_with 0x1f tape.now ≡ false }
+    ensures lent { Lent pen.old pen.new }
     ensures moves { ChildMoves (length tape.now) result }
-    ensures step { (f d : ℕ) (k : Children) (u : ℕ) → length tape.now < f → children_at f context.now.text.now d tape.now ≡ done k u → ChildStep (context_of context.now) d tape.now calls.old calls.new notices.old notices.new pen result f k u }
+    ensures step { (f d : ℕ) (k : Children) (u : ℕ) → length tape.now < f → children_at f context.now.text.now d tape.now ≡ done k u → ChildStep (context_of context.now) d tape.now pen.old pen.new result f k u }
 {
     match child_command_at(tape) {
-        Ok(ChildCommand::Text(span)) => transform_jsx_text(context, span, calls, pen),
-        Ok(ChildCommand::Expression(e)) => Items {
-            pen: put_over(calls, pen, WithExpression::Expression, e),
-            used: sizes::WITH_EXPRESSION,
-            count: 1,
-            spread: false,
-        },
-        Ok(ChildCommand::Empty) => Items {
-            pen,
-            used: sizes::BARE,
-            count: 0,
-            spread: false,
-        },
-        Ok(ChildCommand::Spread(e)) => Items {
-            pen: put_over(calls, pen, WithExpression::SpreadItem, e),
-            used: sizes::WITH_EXPRESSION,
-            count: 1,
-            spread: true,
-        },
+        Ok(ChildCommand::Text(span)) => transform_jsx_text(context, span, pen),
+        Ok(ChildCommand::Expression(e)) => {
+            pen.put_over(WithExpression::Expression, e);
+            Items {
+                used: sizes::WITH_EXPRESSION,
+                count: 1,
+                spread: false,
+            }
+        }
+        Ok(ChildCommand::Empty) => unread(sizes::BARE),
+        Ok(ChildCommand::Spread(e)) => {
+            pen.put_over(WithExpression::SpreadItem, e);
+            Items {
+                used: sizes::WITH_EXPRESSION,
+                count: 1,
+                spread: true,
+            }
+        }
         Ok(ChildCommand::Element(place)) => {
             let inside = &tape[sizes::WITH_PLACE..];
-            let node = transform_jsx(context, inside, place, calls, notices, pen);
             Items {
-                pen: node.value,
-                used: sizes::WITH_PLACE + node.used,
+                used: sizes::WITH_PLACE + transform_jsx(context, inside, place, pen),
                 count: 1,
                 spread: false,
             }
         }
         Ok(ChildCommand::Fragment(_)) => {
             let inside = &tape[sizes::WITH_PLACE..];
-            let node = fragment(context, inside, calls, notices, pen);
             Items {
-                pen: node.value,
-                used: sizes::WITH_PLACE + node.used,
+                used: sizes::WITH_PLACE + fragment(context, inside, pen),
                 count: 1,
                 spread: false,
             }
         }
-        Ok(ChildCommand::End) => unread(pen, tape.len()),
-        Err(_) => unread(pen, tape.len()),
+        Ok(ChildCommand::End) => unread(tape.len()),
+        Err(_) => unread(tape.len()),
     }
 }
 
 // The children up to the 1f.
 #[cycle(lowering)]
-fn children(
-    context: &Context<'_>,
-    tape: &[u8],
-    calls: &mut [u8],
-    notices: &mut [u8],
-    pen: Pen,
-) -> Items
+fn children(context: &Context<'_>, tape: &[u8], pen: &mut Pen<'_>) -> Items
+    ensures lent { Lent pen.old pen.new }
     ensures within { (result.used ≤ length tape.now) × (result.count ≤ length tape.now) }
-    ensures written { (f d : ℕ) (k : Children) (u : ℕ) → length tape.now < f → children_at f context.now.text.now d tape.now ≡ done k u → ChildrenWritten (context_of context.now) k (lower_children (context_of context.now) k) u calls.old calls.new notices.old notices.new pen result }
+    ensures written { (f d : ℕ) (k : Children) (u : ℕ) → length tape.now < f → children_at f context.now.text.now d tape.now ≡ done k u → ChildrenWritten (context_of context.now) k (lower_children (context_of context.now) k) u pen.old pen.new result }
 {
     let mut rest = tape;
-    let mut next = pen;
+    // kept: the children that survive are counted, not the turns
     let mut count: usize = 0;
     let mut spread = false;
     loop {
-        // the end is no step, which would copy the pen
         if starts_with(rest, codes::END) {
             return Items {
-                pen: next,
                 used: tape.len() - rest.len() + sizes::BARE,
                 count,
                 spread,
@@ -331,14 +274,12 @@ fn children(
         }
         if rest.is_empty() {
             return Items {
-                pen: next,
                 used: tape.len(),
                 count,
                 spread,
             };
         }
-        let step = transform_jsx_child(context, rest, calls, notices, next);
-        next = step.pen;
+        let step = transform_jsx_child(context, rest, pen);
         count = count + step.count;
         spread = spread | step.spread;
         rest = &rest[step.used..];
@@ -347,52 +288,40 @@ fn children(
 
 // The children of an automatic call and the end of its object. Where no child survives, the object's end takes the place of the children's begin.
 #[cycle(lowering)]
-fn inner(
-    context: &Context<'_>,
-    tape: &[u8],
-    calls: &mut [u8],
-    notices: &mut [u8],
-    pen: Pen,
-) -> Items
+fn inner(context: &Context<'_>, tape: &[u8], pen: &mut Pen<'_>) -> Items
+    ensures lent { Lent pen.old pen.new }
     ensures within { (result.used ≤ length tape.now) × (result.count ≤ length tape.now) }
-    ensures written { (f d : ℕ) (k : Children) (u : ℕ) → length tape.now < f → children_at f context.now.text.now d tape.now ≡ done k u → ChildrenWritten (context_of context.now) k (children_object (context_of context.now) k) u calls.old calls.new notices.old notices.new pen result }
+    ensures written { (f d : ℕ) (k : Children) (u : ℕ) → length tape.now < f → children_at f context.now.text.now d tape.now ≡ done k u → ChildrenWritten (context_of context.now) k (children_object (context_of context.now) k) u pen.old pen.new result }
 {
-    let begun = put_bare(calls, pen, Bare::ChildrenBegin);
-    let items = children(context, tape, calls, notices, begun);
+    let start = pen.call_place;
+    pen.put_bare(Bare::ChildrenBegin);
+    let items = children(context, tape, pen);
     if items.count == 0 {
-        return Items {
-            pen: put_bare(calls, pen, Bare::ObjectEnd),
-            ..items
-        };
+        pen.call_place = start;
+        pen.put_bare(Bare::ObjectEnd);
+        return items;
     }
-    let form = children_form(items.count, items.spread);
-    let formed = put_byte(calls, items.pen, WithByte::ChildrenEnd, form);
-    Items {
-        pen: put_bare(calls, formed, Bare::ObjectEnd),
-        ..items
-    }
+    pen.put_byte(
+        WithByte::ChildrenEnd,
+        children_form(items.count, items.spread),
+    );
+    pen.put_bare(Bare::ObjectEnd);
+    items
 }
 
 // The value of the last key, or what stands for none.
 #[cycle(lowering)]
-fn key_of(
-    context: &Context<'_>,
-    tape: &[u8],
-    key: Option<usize>,
-    calls: &mut [u8],
-    notices: &mut [u8],
-    pen: Pen,
-) -> Pen
+fn key_of(context: &Context<'_>, tape: &[u8], key: Option<usize>, pen: &mut Pen<'_>)
     requires { KeyWithin (length tape.now) key }
-    ensures { (d : ℕ) (os : List Output) → KeyAt (context_of context.now) d tape.now (no_key (context_of context.now)) key os → Produced os calls.old calls.new notices.old notices.new pen result }
+    ensures lent { Lent pen.old pen.new }
+    ensures written { (d : ℕ) (os : List Output) → KeyAt (context_of context.now) d tape.now (no_key (context_of context.now)) key os → Produced os pen.old pen.new }
 {
     match key {
         Some(place) => {
-            let begun = put_bare(calls, pen, Bare::Key);
-            let value = &tape[place..];
-            transform_jsx_attribute_value(context, value, calls, notices, begun).value
+            pen.put_bare(Bare::Key);
+            transform_jsx_attribute_value(context, &tape[place..], pen);
         }
-        None => no_key(context, calls, pen),
+        None => no_key(context, pen),
     }
 }
 
@@ -403,234 +332,165 @@ fn automatic(
     tape: &[u8],
     at: usize,
     place: Place,
-    calls: &mut [u8],
-    notices: &mut [u8],
-    pen: Pen,
-) -> Used<Pen>
+    pen: &mut Pen<'_>,
+) -> usize
     requires { at ≤ length tape.now }
-    ensures used_in_bounds { result.used ≤ length tape.now }
-    ensures written { (d f : ℕ) (n : Name) (a : Attributes) (v : ℕ) (k : Children) (w : ℕ) → Parts context.now.text.now d tape.now f at n a v k w → Countable place → Written (automatic_element (context_of context.now) place n a k) (at + v + w) calls.old calls.new notices.old notices.new pen result.value result.used }
+    ensures lent { Lent pen.old pen.new }
+    ensures used_in_bounds { result ≤ length tape.now }
+    ensures written { (d f : ℕ) (n : Name) (a : Attributes) (v : ℕ) (k : Children) (w : ℕ) → Parts context.now.text.now d tape.now f at n a v k w → Countable place → Written (automatic_element (context_of context.now) place n a k) (at + v + w) pen.old pen.new result }
 {
-    let begun = put_byte(calls, pen, WithByte::Call, AUTOMATIC);
-    let object = put_bare(calls, begun, Bare::ObjectBegin);
-    let props = attrs(context, false, &tape[at..], calls, notices, object);
+    pen.put_byte(WithByte::Call, Form::Automatic as u8);
+    pen.put_bare(Bare::ObjectBegin);
+    let props = attrs(context, Form::Automatic, &tape[at..], pen);
     let from = at + props.used;
-    let items = inner(context, &tape[from..], calls, notices, props.pen);
-    let count = items.count;
-    let keyed = key_of(context, &tape[at..], props.key, calls, notices, items.pen);
-    let counted = static_children(context, calls, keyed, count);
-    let sourced = source_output(context, calls, counted, place);
-    let added = self_output(context, calls, sourced);
-    let tagged = put_bare(calls, added, Bare::Tag);
-    let named = transform_element_name(context, tape, calls, notices, tagged);
-    let end = closing(context, calls, named, automatic_name(context, count));
-    Used {
-        value: end,
-        used: from + items.used,
-    }
+    let items = inner(context, &tape[from..], pen);
+    key_of(context, &tape[at..], props.key, pen);
+    static_children(context, items.count, pen);
+    source_output(context, place, pen);
+    self_output(context, pen);
+    pen.put_bare(Bare::Tag);
+    transform_element_name(context, tape, pen);
+    closing(context, automatic_name(context, items.count), pen);
+    from + items.used
 }
 
 // The object of a classic call, or null in its place where there is no property.
 #[cycle(lowering)]
-fn or_null(
-    context: &Context<'_>,
-    tape: &[u8],
-    place: Place,
-    calls: &mut [u8],
-    notices: &mut [u8],
-    pen: Pen,
-) -> Used<Pen>
-    ensures used_in_bounds { result.used ≤ length tape.now }
-    ensures written { (d f : ℕ) (a : Attributes) (u : ℕ) → length tape.now < f → attributes_at f context.now.text.now d tape.now ≡ done a u → Countable place → Written (object_of (classic_properties (context_of context.now) place a)) u calls.old calls.new notices.old notices.new pen result.value result.used }
+fn or_null(context: &Context<'_>, tape: &[u8], place: Place, pen: &mut Pen<'_>) -> usize
+    ensures lent { Lent pen.old pen.new }
+    ensures used_in_bounds { result ≤ length tape.now }
+    ensures written { (d f : ℕ) (a : Attributes) (u : ℕ) → length tape.now < f → attributes_at f context.now.text.now d tape.now ≡ done a u → Countable place → Written (object_of (classic_properties (context_of context.now) place a)) u pen.old pen.new result }
 {
-    let begun = put_bare(calls, pen, Bare::ObjectBegin);
-    let props = attrs(context, true, tape, calls, notices, begun);
-    let used = props.used;
-    let added = self_output(context, calls, props.pen);
-    let sourced = source_output(context, calls, added, place);
+    let start = pen.call_place;
+    pen.put_bare(Bare::ObjectBegin);
+    let props = attrs(context, Form::Classic, tape, pen);
+    self_output(context, pen);
+    source_output(context, place, pen);
     if has_more(context, props.some) {
-        let end = put_bare(calls, sourced, Bare::ObjectEnd);
-        return Used { value: end, used };
+        pen.put_bare(Bare::ObjectEnd);
+        return props.used;
     }
-    let null = put_bare(calls, pen, Bare::Null);
-    Used { value: null, used }
+    pen.call_place = start;
+    pen.put_bare(Bare::Null);
+    props.used
 }
 
 // The argument of a classic call behind the tag: a sole spread, an object or null.
 #[cycle(lowering)]
-fn argument(
-    context: &Context<'_>,
-    tape: &[u8],
-    place: Place,
-    calls: &mut [u8],
-    notices: &mut [u8],
-    pen: Pen,
-) -> Used<Pen>
-    ensures used_in_bounds { result.used ≤ length tape.now }
-    ensures written { (d f : ℕ) (a : Attributes) (u : ℕ) → length tape.now < f → attributes_at f context.now.text.now d tape.now ≡ done a u → Countable place → Written (lone_spread_or (context_of context.now) a (object_of (classic_properties (context_of context.now) place a))) u calls.old calls.new notices.old notices.new pen result.value result.used }
+fn argument(context: &Context<'_>, tape: &[u8], place: Place, pen: &mut Pen<'_>) -> usize
+    ensures lent { Lent pen.old pen.new }
+    ensures used_in_bounds { result ≤ length tape.now }
+    ensures written { (d f : ℕ) (a : Attributes) (u : ℕ) → length tape.now < f → attributes_at f context.now.text.now d tape.now ≡ done a u → Countable place → Written (lone_spread_or (context_of context.now) a (object_of (classic_properties (context_of context.now) place a))) u pen.old pen.new result }
 {
     match lone_spread(context, tape) {
-        Some(sole) => Used {
-            value: put_over(calls, pen, WithExpression::SoleSpread, sole.value),
-            used: sole.used,
-        },
-        None => or_null(context, tape, place, calls, notices, pen),
+        Some(sole) => {
+            pen.put_over(WithExpression::SoleSpread, sole.value);
+            sole.used
+        }
+        None => or_null(context, tape, place, pen),
     }
 }
 
 // A classic call of an element whose name takes `at` bytes.
 #[cycle(lowering)]
-fn create(
-    context: &Context<'_>,
-    tape: &[u8],
-    at: usize,
-    place: Place,
-    calls: &mut [u8],
-    notices: &mut [u8],
-    pen: Pen,
-) -> Used<Pen>
+fn create(context: &Context<'_>, tape: &[u8], at: usize, place: Place, pen: &mut Pen<'_>) -> usize
     requires { at ≤ length tape.now }
-    ensures used_in_bounds { result.used ≤ length tape.now }
-    ensures written { (d f : ℕ) (n : Name) (a : Attributes) (v : ℕ) (k : Children) (w : ℕ) → Parts context.now.text.now d tape.now f at n a v k w → Countable place → Written (classic_call_of (context_of context.now) place n a k) (at + v + w) calls.old calls.new notices.old notices.new pen result.value result.used }
+    ensures lent { Lent pen.old pen.new }
+    ensures used_in_bounds { result ≤ length tape.now }
+    ensures written { (d f : ℕ) (n : Name) (a : Attributes) (v : ℕ) (k : Children) (w : ℕ) → Parts context.now.text.now d tape.now f at n a v k w → Countable place → Written (classic_call_of (context_of context.now) place n a k) (at + v + w) pen.old pen.new result }
 {
-    let begun = put_byte(calls, pen, WithByte::Call, CLASSIC);
-    let first = argument(context, &tape[at..], place, calls, notices, begun);
-    let from = at + first.used;
-    let items = children(context, &tape[from..], calls, notices, first.value);
-    let tagged = put_bare(calls, items.pen, Bare::Tag);
-    let named = transform_element_name(context, tape, calls, notices, tagged);
-    let end = closing(context, calls, named, CREATE_ELEMENT);
-    Used {
-        value: end,
-        used: from + items.used,
-    }
+    pen.put_byte(WithByte::Call, Form::Classic as u8);
+    let from = at + argument(context, &tape[at..], place, pen);
+    let items = children(context, &tape[from..], pen);
+    pen.put_bare(Bare::Tag);
+    transform_element_name(context, tape, pen);
+    closing(context, CREATE_ELEMENT, pen);
+    from + items.used
 }
 
 // An element behind its 10 and place.
 #[cycle(lowering)]
-fn transform_jsx(
-    context: &Context<'_>,
-    tape: &[u8],
-    place: Place,
-    calls: &mut [u8],
-    notices: &mut [u8],
-    pen: Pen,
-) -> Used<Pen>
-    ensures used_in_bounds { result.used ≤ length tape.now }
-    ensures written { (f d : ℕ) (n : Node) (u : ℕ) → suc (length tape.now) < f → element_at f context.now.text.now d place tape.now ≡ done n u → Countable place → Written (lower_node (context_of context.now) n) u calls.old calls.new notices.old notices.new pen result.value result.used }
+fn transform_jsx(context: &Context<'_>, tape: &[u8], place: Place, pen: &mut Pen<'_>) -> usize
+    ensures lent { Lent pen.old pen.new }
+    ensures used_in_bounds { result ≤ length tape.now }
+    ensures written { (f d : ℕ) (n : Node) (u : ℕ) → suc (length tape.now) < f → element_at f context.now.text.now d place tape.now ≡ done n u → Countable place → Written (lower_node (context_of context.now) n) u pen.old pen.new result }
 {
     let at = skip_name(tape);
     if is_classic_element(context, &tape[at..]) {
-        return create(context, tape, at, place, calls, notices, pen);
+        return create(context, tape, at, place, pen);
     }
-    automatic(context, tape, at, place, calls, notices, pen)
+    automatic(context, tape, at, place, pen)
 }
 
 // A fragment behind its 11 and place.
 #[cycle(lowering)]
-fn fragment(
-    context: &Context<'_>,
-    tape: &[u8],
-    calls: &mut [u8],
-    notices: &mut [u8],
-    pen: Pen,
-) -> Used<Pen>
-    ensures used_in_bounds { result.used ≤ length tape.now }
-    ensures written { (f d : ℕ) (place : places.Place) (n : Node) (u : ℕ) → suc (length tape.now) < f → fragment_at f context.now.text.now d place tape.now ≡ done n u → Written (lower_node (context_of context.now) n) u calls.old calls.new notices.old notices.new pen result.value result.used }
+fn fragment(context: &Context<'_>, tape: &[u8], pen: &mut Pen<'_>) -> usize
+    ensures lent { Lent pen.old pen.new }
+    ensures used_in_bounds { result ≤ length tape.now }
+    ensures written { (f d : ℕ) (place : places.Place) (n : Node) (u : ℕ) → suc (length tape.now) < f → fragment_at f context.now.text.now d place tape.now ≡ done n u → Written (lower_node (context_of context.now) n) u pen.old pen.new result }
 {
     if is_classic(context.settings.mode) {
-        return bare(context, tape, calls, notices, pen);
+        return bare(context, tape, pen);
     }
-    bare_auto(context, tape, calls, notices, pen)
+    bare_auto(context, tape, pen)
 }
 
 // A classic call of a fragment.
 #[cycle(lowering)]
-fn bare(
-    context: &Context<'_>,
-    tape: &[u8],
-    calls: &mut [u8],
-    notices: &mut [u8],
-    pen: Pen,
-) -> Used<Pen>
-    ensures used_in_bounds { result.used ≤ length tape.now }
-    ensures written { (f d : ℕ) (k : Children) (u : ℕ) → length tape.now < f → children_at f context.now.text.now d tape.now ≡ done k u → Written (classic_fragment (context_of context.now) k) u calls.old calls.new notices.old notices.new pen result.value result.used }
+fn bare(context: &Context<'_>, tape: &[u8], pen: &mut Pen<'_>) -> usize
+    ensures lent { Lent pen.old pen.new }
+    ensures used_in_bounds { result ≤ length tape.now }
+    ensures written { (f d : ℕ) (k : Children) (u : ℕ) → length tape.now < f → children_at f context.now.text.now d tape.now ≡ done k u → Written (classic_fragment (context_of context.now) k) u pen.old pen.new result }
 {
-    let begun = put_byte(calls, pen, WithByte::Call, CLASSIC);
-    let null = put_bare(calls, begun, Bare::Null);
-    let items = children(context, tape, calls, notices, null);
-    let tagged = put_bare(calls, items.pen, Bare::Tag);
-    let named = get_fragment(context.settings.mode, calls, tagged);
-    let end = closing(context, calls, named, CREATE_ELEMENT);
-    Used {
-        value: end,
-        used: items.used,
-    }
+    pen.put_byte(WithByte::Call, Form::Classic as u8);
+    pen.put_bare(Bare::Null);
+    let items = children(context, tape, pen);
+    pen.put_bare(Bare::Tag);
+    get_fragment(context.settings.mode, pen);
+    closing(context, CREATE_ELEMENT, pen);
+    items.used
 }
 
 // An automatic call of a fragment.
 #[cycle(lowering)]
-fn bare_auto(
-    context: &Context<'_>,
-    tape: &[u8],
-    calls: &mut [u8],
-    notices: &mut [u8],
-    pen: Pen,
-) -> Used<Pen>
-    ensures used_in_bounds { result.used ≤ length tape.now }
-    ensures written { (f d : ℕ) (k : Children) (u : ℕ) → length tape.now < f → children_at f context.now.text.now d tape.now ≡ done k u → Written (automatic_fragment (context_of context.now) k) u calls.old calls.new notices.old notices.new pen result.value result.used }
+fn bare_auto(context: &Context<'_>, tape: &[u8], pen: &mut Pen<'_>) -> usize
+    ensures lent { Lent pen.old pen.new }
+    ensures used_in_bounds { result ≤ length tape.now }
+    ensures written { (f d : ℕ) (k : Children) (u : ℕ) → length tape.now < f → children_at f context.now.text.now d tape.now ≡ done k u → Written (automatic_fragment (context_of context.now) k) u pen.old pen.new result }
 {
-    let begun = put_byte(calls, pen, WithByte::Call, AUTOMATIC);
-    let object = put_bare(calls, begun, Bare::ObjectBegin);
-    let items = inner(context, tape, calls, notices, object);
-    let count = items.count;
-    let keyed = no_key(context, calls, items.pen);
-    let counted = static_children(context, calls, keyed, count);
-    let tagged = put_bare(calls, counted, Bare::Tag);
-    let named = get_fragment(context.settings.mode, calls, tagged);
-    let end = closing(context, calls, named, automatic_name(context, count));
-    Used {
-        value: end,
-        used: items.used,
-    }
+    pen.put_byte(WithByte::Call, Form::Automatic as u8);
+    pen.put_bare(Bare::ObjectBegin);
+    let items = inner(context, tape, pen);
+    no_key(context, pen);
+    static_children(context, items.count, pen);
+    pen.put_bare(Bare::Tag);
+    get_fragment(context.settings.mode, pen);
+    closing(context, automatic_name(context, items.count), pen);
+    items.used
 }
 
 // The element or fragment that stands at the front of what follows a root's scopes.
-fn transform_root(
-    context: &Context<'_>,
-    tape: &[u8],
-    calls: &mut [u8],
-    notices: &mut [u8],
-    pen: Pen,
-) -> Pen
-    ensures { (n : Node) → NodeAt context.now.text.now tape.now n → Produced (lower_node (context_of context.now) n) calls.old calls.new notices.old notices.new pen result }
+fn transform_root(context: &Context<'_>, tape: &[u8], pen: &mut Pen<'_>)
+    ensures lent { Lent pen.old pen.new }
+    ensures written { (n : Node) → NodeAt context.now.text.now tape.now n → Produced (lower_node (context_of context.now) n) pen.old pen.new }
 {
     match scope_command_at(true, tape) {
         Ok(ScopeCommand::Element(place)) => {
-            let inside = &tape[sizes::WITH_PLACE..];
-            transform_jsx(context, inside, place, calls, notices, pen).value
+            transform_jsx(context, &tape[sizes::WITH_PLACE..], place, pen);
         }
         Ok(ScopeCommand::Fragment(_)) => {
-            let inside = &tape[sizes::WITH_PLACE..];
-            fragment(context, inside, calls, notices, pen).value
+            fragment(context, &tape[sizes::WITH_PLACE..], pen);
         }
-        Ok(ScopeCommand::Scope(_)) => pen,
-        Err(_) => pen,
+        Ok(ScopeCommand::Scope(_)) | Err(_) => {}
     }
 }
 
 // A root that was checked: its calls and notices are written. From targets that are empty it counts.
-pub fn lower(
-    text: &[u8],
-    settings: &Settings,
-    tape: &[u8],
-    calls: &mut [u8],
-    notices: &mut [u8],
-    pen: Pen,
-) -> Pen
+pub fn lower(text: &[u8], settings: &Settings, tape: &[u8], pen: &mut Pen<'_>)
     requires text_len_bound { length text.now ≤ 65535 }
     requires text_value { first_ill text.now ≡ None }
-    ensures { (o : Root) (u : ℕ) → read_root text.now tape.now ≡ done o u → Produced (lower_root text.now settings.now o) calls.old calls.new notices.old notices.new pen result }
+    ensures lent { Lent pen.old pen.new }
+    ensures written { (o : Root) (u : ℕ) → read_root text.now tape.now ≡ done o u → Produced (lower_root text.now settings.now o) pen.old pen.new }
 {
     let head = root_head(tape);
     let context = Context {
@@ -638,5 +498,5 @@ pub fn lower(
         settings,
         self_allowed: head.value,
     };
-    transform_root(&context, &tape[head.used..], calls, notices, pen)
+    transform_root(&context, &tape[head.used..], pen);
 }

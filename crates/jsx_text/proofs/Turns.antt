@@ -38,9 +38,12 @@ pub record Left (all : List Span) (o₀ : List ℕ) (at₀ : ℕ) (o : List ℕ)
   pub onward : (o' : List ℕ) (r : ℕ) → Wrote o o' t.at r (rest_bytes t.survives rest) → Wrote o₀ o' at₀ r (text_bytes all)
   pub some : some_line all ≡ cond t.survives 1 (some_line rest)
 
-left_start : (all : List Span) (o : List ℕ) (at : ℕ) → at ≤ 2 ^ 63 → Left all o at o (record { at = at; survives = false }) all
+-- a place past the last stops there
+left_start : (all : List Span) (o : List ℕ) (at : ℕ) → length o ≤ 2 ^ 63 → Left all o at o (record { at = min at (2 ^ 63); survives = false }) all
 unfolding rest_bytes
-left_start all o at h = record { long = refl; small = h; onward = λ o' r w. w; some = refl }
+left_start all o at short =
+    let w₀ : Wrote o o at (min at (2 ^ 63)) [] = record { next = omega arith; holds = refl } in
+    record { long = refl; small = omega arith; onward = λ o' r w. wrote_then short w₀ w; some = refl }
 
 module _ (all : List Span) (o₀ : List ℕ) (at₀ : ℕ) (o : List ℕ) (t : Texted) where
   pub left_line : (x : Span) (rest : List Span) → Left all o₀ at₀ o t (x ∷ rest) → (o₁ : List ℕ) (u : Texted) → length o₀ ≤ 2 ^ 63
@@ -147,14 +150,14 @@ rest_start : (text : List ℕ) (s : Span) → rest_from s (part_of text s) openi
 unfolding rest_from
 rest_start text s = rw (add-zero s.start) (fold_text text s)
 
-pub turn_start : (text : List ℕ) (s : Span) (o : List ℕ) (at : ℕ) → at ≤ 2 ^ 63
-    → Turn s (part_of text s) (jsx_text text s) o at o (record { at = at; survives = false }) 0 0 0
+pub turn_start : (text : List ℕ) (s : Span) (o : List ℕ) (at : ℕ) → length o ≤ 2 ^ 63
+    → Turn s (part_of text s) (jsx_text text s) o at o (record { at = min at (2 ^ 63); survives = false }) 0 0 0
 unfolding Stands
-turn_start text s o at h = record {
+turn_start text s o at short = record {
   line = opening;
   stands = (refl, refl);
   come = come_start (part_of text s);
-  left = rw (rest_start text s) (left_start (jsx_text text s) o at h);
+  left = rw (rest_start text s) (left_start (jsx_text text s) o at short);
 }
 
 module _ (s : Span) (chars : List ℕ) (all : List Span) (o₀ : List ℕ) (at₀ : ℕ) (o : List ℕ) (t : Texted) (first last i : ℕ)

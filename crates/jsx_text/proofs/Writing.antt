@@ -16,7 +16,6 @@ module _ (later : Bool) (s : Span) (b : ℕ) (e : b ≡ cond later 0x8c 0x8a) (o
   unfolding line_bytes
   wrote_empty_line z = rw (eq-eqb s.len 0 z, ← e) w
 
-  pub wrote_line : (s.len ≡ 0 → ⊥) → length o ≤ 2 ^ 63 → (o₂ o₃ : List ℕ) (r₂ r₃ : ℕ) → Wrote o₁ o₂ r₁ r₂ (0x8b ∷ [])
-      → Wrote o₂ o₃ r₂ r₃ (span_bytes s) → Wrote o o₃ at r₃ (line_bytes later s)
+  pub wrote_line : (s.len ≡ 0 → ⊥) → length o ≤ 2 ^ 63 → (o₂ : List ℕ) (r₂ : ℕ) → Wrote o₁ o₂ r₁ r₂ (0x8b ∷ span_bytes s) → Wrote o o₂ at r₂ (line_bytes later s)
   unfolding line_bytes
-  wrote_line nz short o₂ o₃ r₂ r₃ p q = rw (ne_eqb s.len 0 nz, ← e) (wrote_then short (wrote_then short w p) q)
+  wrote_line nz short o₂ r₂ p = rw (ne_eqb s.len 0 nz, ← e) (wrote_then short w p)

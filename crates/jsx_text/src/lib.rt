@@ -7,13 +7,14 @@ ghost use Rattle.text.specs.Utf8.{first_ill};
 ghost use Rattle.text.specs.Spans.{part_of};
 ghost use Rattle.tape.specs.Targets.{Wrote};
 ghost use Rattle.definitions.specs.JsxText.{jsx_text};
+ghost use Rattle.definitions.specs.Calls.{bare_code};
 ghost use Rattle.definitions.specs.Lowering.{some_line};
 ghost use Rattle.jsx_text.specs.Marks.{marked, Run, Plain, Marks};
 ghost use Rattle.jsx_text.specs.TextBytes.{text_bytes, line_bytes, end_bytes};
 
 use definitions::call_tape::{Bare, Coded, WithSpan};
-use tape::target::{put, put_span};
-use text::bytes::ASCII_END;
+use tape::target::{Encode, LAST_PLACE};
+use text::bytes::passed_blocks;
 use text::chars::{Char, first_char, is_line_terminator, is_white_space};
 use text::spans::{Span, part};
 
@@ -26,6 +27,7 @@ pub struct Texted {
 }
 
 // What stands at a place of the text, by what it is to a line, and how many bytes it has.
+// kept: the three arms of the walk each take the width, so a kind beside a width would be matched and taken apart again
 #[derive(Clone, Copy)]
 enum Mark {
     Ink(usize),
@@ -45,7 +47,7 @@ fn mark_of(c: Char) -> Mark
     Mark::Ink(c.width)
 }
 
-const LAST_ASCII: u8 = ASCII_END - 1;
+const LAST_ASCII: u8 = 0x7f;
 
 // So many bytes of a run are tested at once.
 const BLOCK: usize = 16;
@@ -54,11 +56,7 @@ const BLOCK: usize = 16;
 fn is_run(s: &[u8], lo: u8, hi: u8) -> bool
     ensures { result ≡ true → Run s.now lo hi 0 (length s.now) }
 {
-    let mut all = true;
-    for b in s {
-        all = all & (lo <= *b) & (*b <= hi);
-    }
-    all
+    s.iter().fold(true, |all, b| all & (lo <= *b) & (*b <= hi))
 }
 
 // How far the blocks from a place on have bytes from lo to hi alone.
@@ -66,31 +64,17 @@ fn run_blocks(s: &[u8], from: usize, lo: u8, hi: u8) -> usize
     requires { from ≤ length s.now }
     ensures { Run s.now lo hi from result }
 {
-    let mut to = from;
-    for block in s[from..].chunks_exact(BLOCK) {
-        if !is_run(block, lo, hi) {
-            return to;
-        }
-        to += BLOCK;
-    }
-    to
+    from + passed_blocks(&s[from..], BLOCK, |block| is_run(block, lo, hi))
 }
 
 // How far the bytes from a place on are from lo to hi.
-// kept: `take_while(..).count()` takes 6 percent more instructions over a text of words (callgrind), `position` and a `for` over the rest 10.
+// kept: `take_while(..).count()` takes 6 percent more instructions over a text of words (callgrind), `position` and a `for` over the rest 10; more than 3 is too slow.
 fn run_end(s: &[u8], from: usize, lo: u8, hi: u8) -> usize
     requires { from ≤ length s.now }
     ensures { Run s.now lo hi from result }
 {
     let mut to = run_blocks(s, from, lo, hi);
-    while to < s.len() {
-        let b = s[to];
-        if b < lo {
-            return to;
-        }
-        if hi < b {
-            return to;
-        }
+    while to < s.len() && lo <= s[to] && s[to] <= hi {
         to += 1;
     }
     to
@@ -115,68 +99,63 @@ fn mark_at(s: &[u8], i: usize) -> Mark
     requires { i < length s.now }
     ensures { Marks s.now i result }
 {
-    let b = s[i];
-    if ASCII_END <= b {
-        return match first_char(&s[i..]) {
+    match s[i] {
+        0x80.. => match first_char(&s[i..]) {
             Some(c) => mark_of(c),
             None => Mark::Ink(1),
-        };
+        },
+        b'!'..=LAST_ASCII => Mark::Ink(plain_end(s, i) - i),
+        b' ' => Mark::White(run_end(s, i + 1, b' ', b' ') - i),
+        control => mark_of(Char {
+            code: u32::from(control),
+            width: 1,
+        }),
     }
-    if b' ' < b {
-        return Mark::Ink(plain_end(s, i) - i);
-    }
-    if b == b' ' {
-        return Mark::White(run_end(s, i + 1, b' ', b' ') - i);
-    }
-    mark_of(Char {
-        code: u32::from(b),
-        width: 1,
-    })
 }
 
 // What a line stands behind: the string's begin, or a space.
 #[tactic(auto, unfolding(definitions::specs::Calls::bare_code))]
-fn lead(later: bool) -> u8
-    ensures { result ≡ cond later 0x8c 0x8a }
+fn lead(later: bool) -> Bare
+    ensures { bare_code result ≡ cond later 0x8c 0x8a }
 {
     if later {
-        return Bare::Space.code();
+        Bare::Space
+    } else {
+        Bare::StringBegin
     }
-    Bare::StringBegin.code()
 }
 
 // Writes a line: the first one begins the string, a later one stands behind a space.
+// kept: the flag is true behind every line, but without it each of the three callers would put it beside the place again
 fn add_line_of_jsx_text(calls: &mut [u8], before: Texted, line: Span) -> Texted
     ensures wrote { Wrote calls.old calls.new before.at result.at (line_bytes before.survives line) }
     ensures survives { result.survives ≡ true }
 {
-    let next = put(calls, before.at, lead(before.survives));
+    let next = lead(before.survives).code().encode(calls, before.at);
     if line.len == 0 {
         return Texted {
             at: next,
             survives: true,
         };
     }
-    let next = put(calls, next, WithSpan::Piece.code());
     Texted {
-        at: put_span(calls, next, line),
+        at: (WithSpan::Piece.code(), line).encode(calls, next),
         survives: true,
     }
 }
 
 // Ends the string, if there is one.
+#[tactic(auto, unfolding(crate::specs::TextBytes::end_bytes, definitions::specs::Calls::bare_code))]
 fn end_of_jsx_text(calls: &mut [u8], before: Texted) -> Texted
-    requires { before.at ≤ 2 ^ 63 }
     ensures wrote { Wrote calls.old calls.new before.at result.at (end_bytes before.survives) }
     ensures survives { result.survives ≡ before.survives }
 {
-    if before.survives {
-        return Texted {
-            at: put(calls, before.at, Bare::StringEnd.code()),
-            survives: true,
-        };
-    }
-    before
+    let at = if before.survives {
+        Bare::StringEnd.code().encode(calls, before.at)
+    } else {
+        ().encode(calls, before.at)
+    };
+    Texted { at, ..before }
 }
 
 // From one place to another of a part of the text that starts at `start`.
@@ -184,10 +163,7 @@ fn span_between(start: usize, first: usize, last: usize) -> Span
     requires { (first ≤ last) × (start + last ≤ 65535) }
     ensures { result ≡ record { start = start + first; len = last - first } }
 {
-    Span {
-        start: (start + first) as u16,
-        len: (last - first) as u16,
-    }
+    Span::new(start + first, last - first)
 }
 
 // Writes the lines of the text at `span`: one line stays whole; of several the first keeps its front, the last its back, and blank
@@ -200,14 +176,13 @@ pub fn fixup_whitespace_and_decode_entities(
 ) -> Texted
     requires text_len_bound { length text.now ≤ 65535 }
     requires well_formed { first_ill (part_of text.now span) ≡ None }
-    requires at_bound { at ≤ 2 ^ 63 }
     ensures wrote { Wrote calls.old calls.new at result.at (text_bytes (jsx_text text.now span)) }
     ensures survives { some_line (jsx_text text.now span) ≡ cond result.survives 1 0 }
 {
     let chars = part(text, span);
     let start = span.start as usize;
     let mut texted = Texted {
-        at: at,
+        at: at.min(LAST_PLACE),
         survives: false,
     };
     // The present line by two places. In the first line, which keeps its front, the first is 0; in a later line it is the text's end
@@ -215,7 +190,8 @@ pub fn fixup_whitespace_and_decode_entities(
     let mut first_non_whitespace = 0;
     let mut last_non_whitespace = 0;
     let mut i = 0;
-    // kept: a turn passes as many bytes as stand there; that the text ends as an `Option` of a mark takes 7 percent more instructions (callgrind).
+    // kept: a turn passes as many bytes as stand there, and a line is told by two places in the text; that the text ends as an `Option` of a mark takes 7 percent
+    // more instructions (callgrind), and more than 3 is too slow.
     while i < chars.len() {
         match mark_at(chars, i) {
             Mark::Ink(width) => {

@@ -38,6 +38,7 @@ fn show(out: &mut impl Write, text: &[u8], span: Span) -> io::Result<()>
 fn show_each(out: &mut impl Write, texts: &[u8]) -> io::Result<()>
     requires { length texts.now ≤ 65536 }
 {
+    // kept: a span is where a text starts in all of them, so that its place is counted
     let mut from = 0;
     for (i, b) in texts.iter().enumerate() {
         if *b == 0 {

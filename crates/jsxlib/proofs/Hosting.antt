@@ -3,7 +3,7 @@
 --     root_held, roots_held  one call over such a world is the roots that it hands over
 --     hosted, opening_hosted   and so are any number of calls behind an opening
 -- Assumes nothing.
-use Rattle.std.specs.Prelude.{Err, Ok, Option, Result, ⊤, unwrap_or}
+use Rattle.std.specs.Prelude.{Err, Ok, Option, Result, ⊤, unwrap_or, Bool, true, false, cond, not, eqb}
 use Rattle.tape.specs.declared.refusal.Refusal.{Refusal}
 use mathlib.Core.Path.{◌≡◌, refl, sym, ap, subst, ◌∙◌}
 use mathlib.Core.List.{List, [], ◌∷◌, ◌++◌, append-nil}
@@ -161,6 +161,15 @@ opened_bytes s target e h =
     let n : 102 ≡ 0 + length (packed s) = omega (arith, packed_length s e) in
     rw (le-ltb (length target) 102 h)
     (ap (λ (k : ℕ). take k (laid 0 (packed s) target)) n ∙ take_laid 0 (packed s) target (omega (arith, packed_length s e)))
+
+-- the bytes that roots left, by whether there were any
+pub kept_by : (n : ℕ) (s : State) (bytes : List ℕ) → kept_state n s bytes ≡ cond (not (eqb n 0)) (packed_target s bytes) bytes
+unfolding kept_state
+kept_by n s bytes = go (eqb n 0)
+  where
+    go : (t : Bool) → cond t bytes (packed_target s bytes) ≡ cond (not t) (packed_target s bytes) bytes
+    go true = refl
+    go false = refl
 
 -- an opening whose state has no room leaves its bytes
 pub kept_short : (a : Result ⊤ Refusal) (s : State) (bytes : List ℕ) → state_after (without_room a) s bytes ≡ bytes

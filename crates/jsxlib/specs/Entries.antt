@@ -1,6 +1,6 @@
 -- The entries over bytes and numbers: what each answers, and what its targets hold after. A refusal is answered by its number, with its figure
 -- beside it; 0 is no refusal.
-use Rattle.std.specs.Prelude.{ℕ, cond, List, length, replicate, eqb, ltb, unwrap_or, Err, Ok, Result, ⊤}
+use Rattle.std.specs.Prelude.{ℕ, cond, List, length, replicate, eqb, ltb, unwrap_or, is_ok, Err, Ok, Result, ⊤}
 use Rattle.tape.specs.declared.refusal.Refusal.{Refusal}
 use Rattle.tape.specs.declared.refusal.Refusal.TheVariants as refusal
 use Rattle.tape.specs.Refusals.{number_of, figure_of}
@@ -27,8 +27,7 @@ figure_by n (Err r) = figure_of r
 
 -- the bytes of a state's target: only an accepted entry changes them
 unfoldable pub state_after : Result ⊤ Refusal → State → List ℕ → List ℕ
-state_after (Ok tt) s bytes = packed_target s bytes
-state_after (Err r) s bytes = bytes
+state_after a s bytes = cond (is_ok a) (packed_target s bytes) bytes
 
 -- ---- opening
 

@@ -1,6 +1,7 @@
 // The entries for programs in other languages, over bytes and numbers. A job's state stands packed in bytes that the caller lends. Each entry
 // answers 0, or the number of a refusal (docs/TAPES.md), and puts its figure where the caller can read it. A refusal leaves the state's bytes and the
 // targets as they are.
+// kept: the C interface: results are numbers, and what else is told goes to lent places, one by one, since that is what other languages take.
 #![tactic(auto)]
 
 ghost use Rattle.std.specs.Prelude.{◌≡◌, cond, ◌≤◌, length, take, is_some};
@@ -9,12 +10,12 @@ ghost use Rattle.definitions.specs.Judging.{accepted};
 ghost use Rattle.definitions.specs.Opening.{judge_opening};
 ghost use Rattle.definitions.specs.Entries.{judge_records, records_answer, records_target};
 ghost use Rattle.lowering.specs.RootLists.{roots_in};
-ghost use Rattle.packing.specs.Packed.{unpacked};
+ghost use Rattle.packing.specs.Packed.{packed_target, unpacked};
 ghost use Rattle.size_bound.specs.SizeBound.{call_size_bound, HoldsCalls};
 ghost use Rattle.jsxlib.specs.Entries.{state_from, number_by, figure_by, state_after, without_room, open_over, root_over, run_over, kept_state, records_over, records_figure, settings_over, source_over, job_over};
 ghost use Rattle.jsxlib.specs.Hosts.{Served, Begins, Hosted};
 
-use definitions::state::State;
+use definitions::state::{State, Stepped};
 use lowering::lower_root;
 use lowering::series::lower_list;
 use packing::layout::STATE_SIZE;
@@ -24,7 +25,7 @@ use resolved::{write_settings, write_source};
 use settings::opening::open_job;
 use size_bound::call_size_bound;
 use store::module_imports::write_records;
-use tape::refusal::{self, FORGED, Refusal};
+use tape::refusal::{FORGED, Refusal};
 
 // The answer of an opening whose state has no room.
 #[tactic(auto, unfolding(crate::specs::Entries::without_room))]
@@ -42,7 +43,7 @@ fn tell(answer: Result<usize, Refusal>, figure: &mut usize) -> u8
 {
     let (number, told) = match answer {
         Ok(size) => (0, size),
-        Err(refused) => (refusal::number(refused), refusal::figure(refused)),
+        Err(refusal) => (refusal.number(), refusal.figure()),
     };
     *figure = told;
     number
@@ -57,14 +58,24 @@ fn tell_with(answer: Result<(), Refusal>, size: usize, figure: &mut usize) -> u8
     tell(answer.and(Ok(size)), figure)
 }
 
-// The state of an accepted entry into its bytes.
-#[tactic(auto, unfolding(crate::specs::Entries::state_after))]
-fn settle(answer: Result<(), Refusal>, state: State, bytes: &mut [u8])
-    ensures { bytes.new ≡ state_after answer state bytes.old }
+// The state that an entry moved into its bytes; what was not moved leaves them as they are.
+fn keep(moved: bool, state: State, bytes: &mut [u8])
+    ensures { bytes.new ≡ cond moved (packed_target state bytes.old) bytes.old }
 {
-    if answer.is_ok() {
+    if moved {
         let _ = pack(state, bytes);
     }
+}
+
+// The state of an accepted entry into its bytes, and the number of its answer; the figure is told, where it is accepted this one.
+#[tactic(auto, unfolding(crate::specs::Entries::state_after))]
+fn settle(stepped: Stepped, size: usize, bytes: &mut [u8], figure: &mut usize) -> u8
+    ensures number { result ≡ number_by stepped.answer }
+    ensures bytes_after { bytes.new ≡ state_after stepped.answer stepped.state bytes.old }
+    ensures figure_after { figure.new ≡ figure_by size stepped.answer }
+{
+    keep(stepped.answer.is_ok(), stepped.state, bytes);
+    tell_with(stepped.answer, size, figure)
 }
 
 fn state_from(bytes: &[u8]) -> State
@@ -97,8 +108,7 @@ pub extern "C" fn jsx_open(
         return tell_with(told, STATE_SIZE, figure);
     }
     let stepped = open_job(text, job, notices);
-    settle(stepped.answer, stepped.state, state);
-    tell_with(stepped.answer, STATE_SIZE, figure)
+    settle(stepped, STATE_SIZE, state, figure)
 }
 
 // Lowers a root: its calls and notices behind those of the roots before it, and the state after it in place of the state before.
@@ -119,24 +129,12 @@ pub extern "C" fn jsx_root(
 {
     let from = state_from(state);
     let stepped = lower_root(text, from, tape, calls, notices);
-    let answer = stepped.answer;
-    let next = stepped.state;
-    settle(answer, next, state);
-    tell_with(answer, 0, figure)
-}
-
-// The state that so many roots left, into its bytes; no roots leave them as they are.
-fn keep(taken: usize, state: State, bytes: &mut [u8])
-    ensures { bytes.new ≡ kept_state taken state bytes.old }
-{
-    if taken == 0 {
-        return;
-    }
-    let _ = pack(state, bytes);
+    settle(stepped, 0, state, figure)
 }
 
 // Lowers the roots of a list in turn, up to the first that is refused, and tells how many were lowered. Each root stands behind its length, two
 // bytes with the low one first.
+#[tactic(auto, using(crate::proofs::Hosting::kept_by))]
 #[unsafe(no_mangle)]
 pub extern "C" fn jsx_roots(
     text: &[u8],
@@ -156,11 +154,9 @@ pub extern "C" fn jsx_roots(
 {
     let from = state_from(state);
     let listed = lower_list(text, from, roots, calls, notices);
-    let told = listed.answer;
-    let next = listed.state;
     *taken = listed.taken;
-    keep(listed.taken, next, state);
-    tell_with(told, 0, figure)
+    keep(listed.taken != 0, listed.state, state);
+    tell_with(listed.answer, 0, figure)
 }
 
 // The record tape of a state: the number of the answer, and its figure.
@@ -232,10 +228,7 @@ pub extern "C" fn jsx_fills(state: &[u8], calls: &mut usize, notices: &mut usize
     let from = told.unwrap_or_else(no_state);
     *calls = from.calls;
     *notices = from.notices;
-    if told.is_some() {
-        return 0;
-    }
-    FORGED
+    told.map_or(FORGED, |_| 0)
 }
 
 // As many bytes as the calls of a root can take at the most: a target with that much room behind its fill takes the root in one pass. What the
@@ -248,8 +241,16 @@ pub extern "C" fn jsx_call_room(tape: &[u8]) -> usize
     call_size_bound(tape)
 }
 
+// How far a job came.
+enum Stage {
+    Opening,
+    Roots,
+    Records,
+}
+
 // A whole job: its opening, the roots of a list in turn, and its records, without a state in between. A refusal ends it: `stage` is 0 where that is the
 // opening's, 1 where it is that of the root with the index `taken`, 2 where there is no room for the records, or where nothing was refused.
+// kept: the C interface: how far the job came and what it filled go to lent places.
 #[unsafe(no_mangle)]
 pub extern "C" fn jsx_job(
     text: &[u8],
@@ -280,7 +281,7 @@ pub extern "C" fn jsx_job(
     let from = opening.state;
     match opened {
         Err(_) => {
-            *stage = 0;
+            *stage = Stage::Opening as usize;
             *taken = 0;
             *call_fill = from.calls;
             *notice_fill = from.notices;
@@ -295,11 +296,11 @@ pub extern "C" fn jsx_job(
             *notice_fill = next.notices;
             match told {
                 Err(_) => {
-                    *stage = 1;
+                    *stage = Stage::Roots as usize;
                     tell_with(told, 0, figure)
                 }
                 Ok(()) => {
-                    *stage = 2;
+                    *stage = Stage::Records as usize;
                     tell_records(text, next, records, figure)
                 }
             }

@@ -4,7 +4,7 @@
 --     job_fresh                               when a job is opened there are no calls, and its notices lie within their target
 --     records_within                          the records lie within their target
 -- Assumes nothing.
-use Rattle.std.specs.Prelude.{Err, Ok, Result}
+use Rattle.std.specs.Prelude.{None, Option, Some, Err, Ok, Result, ⊤}
 use Rattle.tape.specs.declared.refusal.Refusal.{Refusal}
 use mathlib.Core.Path.{◌≡◌, refl, sym, ap, subst, ◌∙◌}
 use mathlib.Core.List.{List, [], ◌∷◌}
@@ -21,42 +21,42 @@ use Rattle.definitions.specs.Series.{World, outcome_in, next, series}
 use Rattle.definitions.proofs.Verdicts.{length_laid, root_taken, records_taken}
 use Rattle.definitions.proofs.Openings.{opening_opens}
 use Rattle.tape.specs.Numbers.{u16_at}
-use borrow.Author.Tests.{le-ltb}
+use borrow.Author.Tests.{lt-ltb, le-ltb}
 use Rattle.text.proofs.Lists.{drop_one}
 use Rattle.lowering.specs.RootLists.{roots_from, roots_in, roots_by}
-use Rattle.lowering.proofs.Listed.{cut_length, cut_root, one_more}
-use Rattle.jsxseries.specs.declared.series.First.{First}
-use Rattle.jsxseries.specs.declared.series.First.TheVariants.{Root, Missing}
+use Rattle.lowering.proofs.Listed.{cut_length, one_more}
 use Rattle.jsxseries.specs.Running.{world, first_of, Fits}
 
 -- ---- the first root of a list
 
 module _ (text : List ℕ) (w : World) (l : List ℕ) where
   -- what is said of a list's first root, and of the world behind it
-  abbrev Takes : First → World → Type 0
+  abbrev Takes : Option (Result ⊤ Refusal) → World → Type 0
   Takes f v = (f ≡ first_of text w (roots_in l)) × (v ≡ series text w (take 1 (roots_in l)))
 
-  missing : ((most : ℕ) → roots_from (suc most) l ≡ []) → Takes Missing w
+  missing : ((most : ℕ) → roots_from (suc most) l ≡ []) → Takes None w
   unfolding roots_in roots_from first_of series
   missing e = go (length l)
     where
-      go : (most : ℕ) → (Missing ≡ first_of text w (roots_from most l)) × (w ≡ series text w (take 1 (roots_from most l)))
+      go : (most : ℕ) → (None ≡ first_of text w (roots_from most l)) × (w ≡ series text w (take 1 (roots_from most l)))
       go zero = (refl, refl)
       go (suc most) = (rw (e most) refl, rw (e most) refl)
 
-  pub first_unread : length l < 2 → Takes Missing w
+  pub first_unread : length l < 2 → Takes None w
   unfolding roots_by
   first_unread h = missing (cut_length l h)
 
   module _ (h : 2 ≤ length l) (n : ℕ) (e : n ≡ u16_at l 0) where
-    pub first_cut : length l - 2 < n → Takes Missing w
-    unfolding roots_by
-    first_cut k = missing (cut_root l h n e k)
+    two : l ≡ get_or l 0 0 ∷ get_or l 1 0 ∷ drop 2 l
+    two = drop_one l 0 (omega arith) ∙ ap (λ (u : List ℕ). get_or l 0 0 ∷ u) (drop_one l 1 (omega arith))
+
+    pub first_cut : length l - 2 < n → Takes None w
+    unfolding roots_by roots_from
+    first_cut k = missing (λ most. rw (two, ← e, lt-ltb (length (drop 2 l)) n (omega (arith, k, length-drop 2 l))))
 
     whole : n ≤ length l - 2 → (most : ℕ) → roots_from (suc most) l ≡ take (2 + n - 2) (drop 2 l) ∷ roots_from most (drop n (drop 2 l))
     unfolding roots_from
     whole k most =
-        let two : l ≡ get_or l 0 0 ∷ get_or l 1 0 ∷ drop 2 l = drop_one l 0 (omega arith) ∙ ap (λ (u : List ℕ). get_or l 0 0 ∷ u) (drop_one l 1 (omega arith)) in
         let same : n ≡ 2 + n - 2 = omega arith in
         let read : roots_from (suc most) l ≡ take n (drop 2 l) ∷ roots_from most (drop n (drop 2 l)) =
         rw (two, ← e, le-ltb (length (drop 2 l)) n (omega (arith, length-drop 2 l))) in
@@ -64,16 +64,16 @@ module _ (text : List ℕ) (w : World) (l : List ℕ) where
 
     pub first_root : n ≤ length l - 2 → {x : Stepped} {cs ns : List ℕ} → x ≡ (outcome_in text w (take (2 + n - 2) (drop 2 l))).stepped
         → cs ≡ (outcome_in text w (take (2 + n - 2) (drop 2 l))).calls → ns ≡ (outcome_in text w (take (2 + n - 2) (drop 2 l))).notices
-        → Takes (Root x.answer) (world x.state cs ns)
+        → Takes (Some x.answer) (world x.state cs ns)
     unfolding roots_in roots_by first_of series
     first_root k {x} {cs} {ns} p q r = go (length l) h
       where
         root : List ℕ
         root = take (2 + n - 2) (drop 2 l)
 
-        go : (most : ℕ) → 2 ≤ most → (Root x.answer ≡ first_of text w (roots_from most l)) × (world x.state cs ns ≡ series text w (take 1 (roots_from most l)))
+        go : (most : ℕ) → 2 ≤ most → (Some x.answer ≡ first_of text w (roots_from most l)) × (world x.state cs ns ≡ series text w (take 1 (roots_from most l)))
         go zero j = absurd (omega arith)
-        go (suc most) j = rw (whole k most) (ap (λ (y : Stepped). Root y.answer) p, one_more text w root p q r)
+        go (suc most) j = rw (whole k most) (ap (λ (y : Stepped). Some y.answer) p, one_more text w root p q r)
 
 -- ---- fills
 

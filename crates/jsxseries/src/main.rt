@@ -4,130 +4,72 @@
 
 mod series;
 
-ghost use Rattle.std.specs.Prelude.{◌≡◌, ◌≤◌, length};
-ghost use Rattle.jsxseries.specs.Running.{world, Fits};
+ghost use Rattle.jsxseries.specs.Running.{world_of, Fits};
 
-use definitions::state::State;
 use files::{CANNOT_WRITE, print_line, print_refusal, read_file};
-use series::lower_all;
+use series::{ROOM, Series};
 use settings::opening::open_job;
 use std::io::{Result, Write};
 use std::rt::Files;
 use std::{fs, io};
 use store::module_imports::write_records;
 
-fn print_records(
-    out: &mut impl Write,
-    text: &[u8],
-    state: State,
-    records: &mut [u8],
-    line: &mut [u8],
-) -> Result<()> {
-    match write_records(text, state, records) {
-        Err(refusal) => print_refusal(out, refusal, line),
-        Ok(n) => print_line(out, b"records", &records[0..n], line),
-    }
-}
+// The longest line has three bytes for each of a full target, its word and a line feed.
+const LINE: usize = 3 * ROOM + 192;
 
 // What the roots left: the fronts of the targets, and the records. A line that can't be written is the last.
-fn print_left(
-    out: &mut impl Write,
-    text: &[u8],
-    state: State,
-    calls: &[u8],
-    notices: &[u8],
-    records: &mut [u8],
-    line: &mut [u8],
-) -> Result<()>
-    requires { Fits (world state calls.now notices.now) }
+fn print_left(out: &mut impl Write, left: &Series, line: &mut [u8]) -> Result<()>
+    requires { Fits (world_of left.now) }
 {
-    let called = state.calls;
-    print_line(out, b"calls", &calls[0..called], line)?;
-    let noticed = state.notices;
-    print_line(out, b"notices", &notices[0..noticed], line)?;
-    print_records(out, text, state, records, line)
-}
-
-// State and notices are those of a job that was just opened. A list that is missing has no roots: nothing can be read of it.
-fn run_roots(
-    rt: &(impl Files + Print),
-    text: &[u8],
-    state: State,
-    calls: &mut [u8],
-    notices: &mut [u8],
-    records: &mut [u8],
-    line: &mut [u8],
-) -> Result<()>
-    requires { (state.calls ≡ 0) × (state.notices ≤ length notices.old) }
-{
-    let mut out = io::writer(rt);
-    let run = match fs::open(rt, "roots.bin") {
-        Ok(mut list) => lower_all(&mut list, &mut out, text, state, calls, notices, line),
-        Err(_) => lower_all(
-            &mut io::empty(),
-            &mut out,
-            text,
-            state,
-            calls,
-            notices,
-            line,
-        ),
-    };
-    run.written?;
-    print_left(&mut out, text, run.state, calls, notices, records, line)
-}
-
-fn run_job(
-    rt: &(impl Files + Print),
-    job: &[u8],
-    text: &[u8],
-    calls: &mut [u8],
-    notices: &mut [u8],
-    records: &mut [u8],
-    line: &mut [u8],
-) -> Result<()> {
-    let opened = open_job(text, job, notices);
-    let answer = opened.answer;
-    let state = opened.state;
-    match answer {
-        Err(refusal) => print_refusal(&mut io::writer(rt), refusal, line),
-        Ok(()) => run_roots(rt, text, state, calls, notices, records, line),
+    print_line(out, b"calls", &left.calls[..left.state.calls], line)?;
+    print_line(out, b"notices", &left.notices[..left.state.notices], line)?;
+    let mut records = [0u8; ROOM];
+    match write_records(left.text, left.state, &mut records) {
+        Err(refusal) => print_refusal(out, refusal, line),
+        Ok(n) => print_line(out, b"records", &records[..n], line),
     }
 }
 
-// Reads the files into the first two buffers, and lends the others as targets and for a line.
-fn run(
-    rt: &(impl Files + Print),
-    job: &mut [u8],
-    text: &mut [u8],
-    calls: &mut [u8],
-    notices: &mut [u8],
-    records: &mut [u8],
-    line: &mut [u8],
-) -> Result<()> {
-    let j = read_file(rt, b"job.bin", job);
-    let t = read_file(rt, b"text.bin", text);
-    run_job(rt, &job[0..j], &text[0..t], calls, notices, records, line)
+// A list that is missing has no roots: nothing can be read of it.
+fn run_roots(rt: &(impl Files + Print), opened: &mut Series, line: &mut [u8]) -> Result<()>
+    requires { Fits (world_of opened.old) }
+{
+    let mut out = io::writer(rt);
+    match fs::open(rt, "roots.bin") {
+        Ok(mut list) => opened.lower_all(&mut list, &mut out, line)?,
+        Err(_) => opened.lower_all(&mut io::empty(), &mut out, line)?,
+    }
+    print_left(&mut out, opened, line)
+}
+
+fn run_job(rt: &(impl Files + Print), job: &[u8], text: &[u8]) -> Result<()> {
+    let mut line = [0u8; LINE];
+    let mut notices = [0u8; ROOM];
+    let opened = open_job(text, job, &mut notices);
+    match opened.answer {
+        Err(refusal) => print_refusal(&mut io::writer(rt), refusal, &mut line),
+        Ok(()) => {
+            let mut series = Series {
+                text,
+                state: opened.state,
+                calls: [0; ROOM],
+                notices,
+            };
+            run_roots(rt, &mut series, &mut line)
+        }
+    }
+}
+
+fn run(rt: &(impl Files + Print)) -> Result<()> {
+    let mut job = [0u8; ROOM];
+    let mut text = [0u8; ROOM];
+    let j = read_file(rt, b"job.bin", &mut job);
+    let t = read_file(rt, b"text.bin", &mut text);
+    run_job(rt, &job[..j], &text[..t])
 }
 
 fn main(rt: HostRuntime) {
-    let mut job = [0u8; 65536];
-    let mut text = [0u8; 65536];
-    let mut calls = [0u8; 65536];
-    let mut notices = [0u8; 65536];
-    let mut records = [0u8; 65536];
-    // the longest line has three bytes for each of a full target, its word and a line feed
-    let mut line = [0u8; 196800];
-    let printed = run(
-        &rt,
-        &mut job,
-        &mut text,
-        &mut calls,
-        &mut notices,
-        &mut records,
-        &mut line,
-    );
-    if printed.is_err() {
+    if run(&rt).is_err() {
         let _ = rt.eprintln(CANNOT_WRITE);
     }
 }

@@ -20,15 +20,21 @@ use Rattle.definitions.specs.Program.{Printed, printed, printed_refusal, room, p
 use Rattle.definitions.proofs.Verdicts.{take_laid, root_taken, records_taken}
 use Rattle.definitions.proofs.Openings.{opening_opens}
 use Rattle.definitions.proofs.RootSeries.{front_laid}
-use Rattle.jsxtape.specs.declared.job.Ended.{Ended}
-use Rattle.jsxtape.specs.declared.job.Ended.TheVariants as ended
-use Rattle.jsxtape.specs.Endings.{shown, most, Ends, Rooms}
+use Rattle.jsxtape.specs.declared.job.Targets.{Targets}
+use Rattle.jsxtape.specs.declared.job.Written.{Written}
+use Rattle.jsxtape.specs.Endings.{shown, most, Ends}
+
+-- "Each of its targets holds 65,536 bytes"
+pub record Rooms (calls notices records : List ℕ) : Type 0 where
+  pub calls_room : length calls ≡ room
+  pub notices_room : length notices ≡ room
+  pub records_room : length records ≡ room
 
 -- ---- a refusal ends the job
 
-turned_away : (p : Printed) (r : Refusal) (cs ns rs : List ℕ) → p ≡ printed_refusal r → Ends p (ended.Refused r) cs ns rs
+turned_away : (p : Printed) (r : Refusal) (to : Targets) → p ≡ printed_refusal r → Ends p (Err r) to
 unfolding shown most
-turned_away p r cs ns rs e = record { shows = sym e; within = zero-le }
+turned_away p r to e = record { shows = sym e; within = zero-le }
 
 -- ---- records
 
@@ -56,10 +62,10 @@ module _ (text : List ℕ) (s : State) (root calls notices records : List ℕ) (
   unfolding root_outcome
   rooms = rw (h.calls_room, h.notices_room)
 
-  pub root_refused : (x : Stepped) (r : Refusal) (cs ns rs : List ℕ) → x ≡ (root_outcome text s root calls notices).stepped → x.answer ≡ Err r
-      → Ends (print_root text noticed s judged) (ended.Refused r) cs ns rs
+  pub root_refused : (x : Stepped) (r : Refusal) (to : Targets) → x ≡ (root_outcome text s root calls notices).stepped → x.answer ≡ Err r
+      → Ends (print_root text noticed s judged) (Err r) to
   unfolding print_root outcome_by
-  root_refused x r cs ns rs e g = turned_away _ r cs ns rs (go judged (sym (ap (λ (y : Stepped). y.answer) (e ∙ ap (λ o. o.stepped) rooms)) ∙ g))
+  root_refused x r to e g = turned_away _ r to (go judged (sym (ap (λ (y : Stepped). y.answer) (e ∙ ap (λ o. o.stepped) rooms)) ∙ g))
     where
       go : (j : Judged Lowered) → (outcome_by s calls notices j).stepped.answer ≡ Err r → print_root text noticed s j ≡ printed_refusal r
       go (accepted l) i = let z : ◌≡◌ {A = ℕ} 0 1 = cc in absurd (omega arith)
@@ -91,15 +97,15 @@ module _ (text : List ℕ) (s : State) (root calls notices records : List ℕ) (
     unfolding print_root
     prints = ap (print_root text noticed s) kept.1
 
-    pub records_refused : (r : Refusal) (cs ns rs : List ℕ) → w ≡ Err r → Ends (print_root text noticed s judged) (ended.Refused r) cs ns rs
+    pub records_refused : (r : Refusal) (to : Targets) → w ≡ Err r → Ends (print_root text noticed s judged) (Err r) to
     unfolding print_records
-    records_refused r cs ns rs k = turned_away _ r cs ns rs (prints ∙ ap (print_records noticed kept.0) (records_by w _ r (v ∙ ap records_answer after) k))
+    records_refused r to k = turned_away _ r to (prints ∙ ap (print_records noticed kept.0) (records_by w _ r (v ∙ ap records_answer after) k))
 
-    pub all_written : (n : ℕ) (cs ns rs : List ℕ) → w ≡ Ok n → cs ≡ (root_outcome text s root calls notices).calls
-        → ns ≡ (root_outcome text s root calls notices).notices → rs ≡ records_target records (judge_records text x.state (length records))
-        → Ends (print_root text noticed s judged) (ended.Written x.state.calls x.state.notices n) cs ns rs
+    pub all_written : (n : ℕ) (to : Targets) → w ≡ Ok n → to.calls ≡ (root_outcome text s root calls notices).calls
+        → to.notices ≡ (root_outcome text s root calls notices).notices → to.records ≡ records_target records (judge_records text x.state (length records))
+        → Ends (print_root text noticed s judged) (Ok (record { calls = x.state.calls; notices = x.state.notices; records = n })) to
     unfolding print_records shown most outcome_by moved records_target
-    all_written n cs ns rs k c d b =
+    all_written n to k c d b =
         let l = kept.0 in
         let y = records_all w _ n (v ∙ ap records_answer after) k in
         let t = y.0 in
@@ -108,16 +114,16 @@ module _ (text : List ℕ) (s : State) (root calls notices records : List ℕ) (
         let i : x.state.calls ≡ s.calls + length l.calls = ap (λ (q : State). q.calls) kept.2 in
         let j : x.state.notices ≡ s.notices + length l.notices = ap (λ (q : State). q.notices) kept.2 in
         let fit : length t ≤ room = records_taken text (moved s l) room t y.1 in
-        let c' : cs ≡ laid s.calls l.calls calls = c ∙ ap (λ o. o.calls) (rooms ∙ came) in
-        let d' : ns ≡ laid s.notices l.notices notices = d ∙ ap (λ o. o.notices) (rooms ∙ came) in
-        let b' : rs ≡ laid 0 t records = b ∙ ap (records_target records) (after ∙ y.1) in
-        let p : take x.state.calls cs ≡ l.calls =
+        let c' : to.calls ≡ laid s.calls l.calls calls = c ∙ ap (λ o. o.calls) (rooms ∙ came) in
+        let d' : to.notices ≡ laid s.notices l.notices notices = d ∙ ap (λ o. o.notices) (rooms ∙ came) in
+        let b' : to.records ≡ laid 0 t records = b ∙ ap (records_target records) (after ∙ y.1) in
+        let p : take x.state.calls to.calls ≡ l.calls =
         (λ ι. take (i ι) (c' ι)) ∙ take_laid s.calls l.calls calls (omega (arith, taken.calls_fit, h.calls_room)) ∙ ap
         (λ (m : ℕ). take m calls ++ l.calls) f in
-        let q : take x.state.notices ns ≡ noticed ++ l.notices =
+        let q : take x.state.notices to.notices ≡ noticed ++ l.notices =
         (λ ι. take (j ι) (d' ι)) ∙ take_laid s.notices l.notices notices (omega (arith, taken.notices_fit, h.notices_room)) in
         let m : n ≡ 0 + length t = omega (arith, y.2) in
-        let u : take n rs ≡ t = (λ ι. take (m ι) (b' ι)) ∙ take_laid 0 t records (omega (arith, fit, h.records_room)) in
+        let u : take n to.records ≡ t = (λ ι. take (m ι) (b' ι)) ∙ take_laid 0 t records (omega (arith, fit, h.records_room)) in
         record {
           shows = (λ ι. printed (p ι) (q ι) (u ι)) ∙ sym (prints ∙ ap (print_records noticed l) y.1);
           within = (omega (arith, taken.calls_fit, i), omega (arith, taken.notices_fit, j), omega (arith, fit, y.2));
@@ -134,9 +140,9 @@ module _ (job text root notices : List ℕ) (h : length notices ≡ room) (x : S
   unfolding opened
   opening_judged = ap (λ (k : ℕ). opened_by text notices (judge_opening text job k)) h
 
-  pub job_refused : (r : Refusal) (cs ns rs : List ℕ) → x.answer ≡ Err r → Ends (jsxtape job text root) (ended.Refused r) cs ns rs
+  pub job_refused : (r : Refusal) (to : Targets) → x.answer ≡ Err r → Ends (jsxtape job text root) (Err r) to
   unfolding jsxtape print_opening opened_by
-  job_refused r cs ns rs g = turned_away _ r cs ns rs (go judged_opening (sym (ap (λ (y : Stepped). y.answer) (e ∙ ap (λ o. o.stepped) opening_judged)) ∙ g))
+  job_refused r to g = turned_away _ r to (go judged_opening (sym (ap (λ (y : Stepped). y.answer) (e ∙ ap (λ o. o.stepped) opening_judged)) ∙ g))
     where
       go : (j : Judged Settings) → (opened_by text notices j).stepped.answer ≡ Err r → print_opening text root j ≡ printed_refusal r
       go (accepted s) i = let z : ◌≡◌ {A = ℕ} 0 1 = cc in absurd (omega arith)
@@ -169,21 +175,18 @@ module _ (job text root notices : List ℕ) (h : length notices ≡ room) (x : S
       let fits = (opening_opens text job room k.0 k.1).fits in
       (λ ι. take (k.2 ι).notices (k.3 ι)) ∙ front_laid b notices (omega (arith, fits, h))
 
-  pub job_opened : (y : Ended) (cs ns rs : List ℕ) → x.answer ≡ Ok tt
-      → Ends (print_root text (take x.state.notices after) x.state (judge_root text x.state root room room)) y cs ns rs
-      → Ends (jsxtape job text root) y cs ns rs
+  pub job_opened : (y : Result Written Refusal) (to : Targets) → x.answer ≡ Ok tt
+      → Ends (print_root text (take x.state.notices after) x.state (judge_root text x.state root room room)) y to
+      → Ends (jsxtape job text root) y to
   unfolding jsxtape print_opening
-  job_opened y cs ns rs g c =
+  job_opened y to g c =
       let k = job_accepted g in
       let b = job_noticed g in
-      subst (λ (p : Printed). Ends p y cs ns rs)
+      subst (λ (p : Printed). Ends p y to)
       ((λ ι. print_root text (b ι) (k.2 ι) (judge_root text (k.2 ι) root room room)) ∙ sym (ap (print_opening text root) k.1)) c
 
 -- ---- what is printed
 
-pub parts : (e : Ended) (c n d : ℕ) {calls notices records : List ℕ} → e ≡ ended.Written c n d → most e room → Rooms calls notices records
-    → (c ≤ length calls) × (n ≤ length notices) × (d ≤ length records)
+pub parts : (e : Result Written Refusal) (w : Written) → e ≡ Ok w → most e room → (w.calls ≤ room) × (w.notices ≤ room) × (w.records ≤ room)
 unfolding most
-parts e c n d i m h =
-    let w : (c ≤ room) × (n ≤ room) × (d ≤ room) = subst (λ (x : Ended). most x room) i m in
-    (omega (arith, w.0, h.calls_room), omega (arith, w.1, h.notices_room), omega (arith, w.2, h.records_room))
+parts e w i m = subst (λ (x : Result Written Refusal). most x room) i m

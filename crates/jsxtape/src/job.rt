@@ -2,7 +2,7 @@
 ghost use Rattle.std.specs.Prelude.{◌≡◌, take};
 ghost use Rattle.definitions.specs.Entries.{judge_root};
 ghost use Rattle.definitions.specs.Program.{room, print_root, jsxtape};
-ghost use Rattle.jsxtape.specs.Endings.{Ends, Rooms};
+ghost use Rattle.jsxtape.specs.Endings.{Ends};
 
 use definitions::state::State;
 use lowering::lower_root;
@@ -10,11 +10,24 @@ use settings::opening::open_job;
 use store::module_imports::write_records;
 use tape::refusal::Refusal;
 
-// How many bytes of the call, the notice and the record target are written; or a refusal.
+// "Each of its targets holds 65,536 bytes"
+pub const ROOM: usize = 65536;
+
+// Where a job's calls, notices and records go.
+// kept: programs take no memory from a heap, so that the targets are fixed arrays.
+#[derive(Drop)]
+pub struct Targets {
+    pub calls: [u8; ROOM],
+    pub notices: [u8; ROOM],
+    pub records: [u8; ROOM],
+}
+
+// How many bytes of each target a job fills.
 #[derive(Clone, Copy)]
-pub enum Ended {
-    Written(usize, usize, usize),
-    Refused(Refusal),
+pub struct Written {
+    pub calls: usize,
+    pub notices: usize,
+    pub records: usize,
 }
 
 // The root behind an opening, whose notices stand at the front of their target.
@@ -22,24 +35,20 @@ fn run_root(
     text: &[u8],
     state: State,
     root: &[u8],
-    calls: &mut [u8],
-    notices: &mut [u8],
-    records: &mut [u8],
-) -> Ended
-    requires calls_value { state.calls ≡ 0 }
-    requires rooms { Rooms calls.old notices.old records.old }
-    ensures { Ends (print_root text.now (take state.notices notices.old) state (judge_root text.now state root.now room room)) result calls.new notices.new records.new }
+    targets: &mut Targets,
+) -> Result<Written, Refusal>
+    requires { state.calls ≡ 0 }
+    ensures { Ends (print_root text.now (take state.notices targets.old.notices) state (judge_root text.now state root.now room room)) result targets.new }
 {
-    let stepped = lower_root(text, state, root, calls, notices);
-    let answer = stepped.answer;
+    let stepped = lower_root(text, state, root, &mut targets.calls, &mut targets.notices);
+    stepped.answer?;
     let after = stepped.state;
-    match answer {
-        Err(refusal) => Ended::Refused(refusal),
-        Ok(()) => match write_records(text, after, records) {
-            Err(refusal) => Ended::Refused(refusal),
-            Ok(n) => Ended::Written(after.calls, after.notices, n),
-        },
-    }
+    let records = write_records(text, after, &mut targets.records)?;
+    Ok(Written {
+        calls: after.calls,
+        notices: after.notices,
+        records,
+    })
 }
 
 // What `jsxtape` prints: a refusal, or how far each of the three targets is filled.
@@ -47,18 +56,11 @@ pub fn run_job(
     job: &[u8],
     text: &[u8],
     root: &[u8],
-    calls: &mut [u8],
-    notices: &mut [u8],
-    records: &mut [u8],
-) -> Ended
-    requires { Rooms calls.old notices.old records.old }
-    ensures { Ends (jsxtape job.now text.now root.now) result calls.new notices.new records.new }
+    targets: &mut Targets,
+) -> Result<Written, Refusal>
+    ensures { Ends (jsxtape job.now text.now root.now) result targets.new }
 {
-    let opened = open_job(text, job, notices);
-    let answer = opened.answer;
-    let state = opened.state;
-    match answer {
-        Err(refusal) => Ended::Refused(refusal),
-        Ok(()) => run_root(text, state, root, calls, notices, records),
-    }
+    let opened = open_job(text, job, &mut targets.notices);
+    opened.answer?;
+    run_root(text, opened.state, root, targets)
 }

@@ -5,83 +5,65 @@ mod job;
 
 ghost use Rattle.std.specs.Prelude.{◌≡◌, length};
 ghost use Rattle.definitions.specs.Program.{room};
-ghost use Rattle.jsxtape.specs.Endings.{most, Rooms};
+ghost use Rattle.jsxtape.specs.Endings.{most};
 
 use files::{CANNOT_WRITE, print_line, print_refusal, read_file};
-use job::{Ended, run_job};
+use job::{ROOM, Targets, Written, run_job};
 use std::io;
 use std::io::Write;
 use std::rt::Files;
+use tape::refusal::Refusal;
+
+// The longest of the three lines has three bytes for each of a full target, its word and a line feed.
+const LINE: usize = 3 * ROOM + 192;
 
 // The front of each target, or the refusal. A line that can't be written is the last.
 fn print_ended(
     out: &mut impl Write,
-    ended: Ended,
-    calls: &[u8],
-    notices: &[u8],
-    records: &[u8],
-    line: &mut [u8],
+    ended: Result<Written, Refusal>,
+    targets: &Targets,
 ) -> io::Result<()>
-    requires most { most ended room }
-    requires rooms { Rooms calls.now notices.now records.now }
+    requires { most ended room }
 {
+    let mut line = [0u8; LINE];
     match ended {
-        Ended::Refused(refusal) => print_refusal(out, refusal, line),
-        Ended::Written(c, n, d) => {
-            print_line(out, b"calls", &calls[0..c], line)?;
-            print_line(out, b"notices", &notices[0..n], line)?;
-            print_line(out, b"records", &records[0..d], line)
+        Err(refusal) => print_refusal(out, refusal, &mut line),
+        Ok(written) => {
+            print_line(out, b"calls", &targets.calls[..written.calls], &mut line)?;
+            print_line(
+                out,
+                b"notices",
+                &targets.notices[..written.notices],
+                &mut line,
+            )?;
+            print_line(
+                out,
+                b"records",
+                &targets.records[..written.records],
+                &mut line,
+            )
         }
     }
 }
 
-// Reads the files into the first three buffers, and lends the others as targets and for a line.
-fn run(
-    rt: &(impl Files + Print),
-    job: &mut [u8],
-    text: &mut [u8],
-    root: &mut [u8],
-    calls: &mut [u8],
-    notices: &mut [u8],
-    records: &mut [u8],
-    line: &mut [u8],
-) -> io::Result<()>
-    requires { Rooms calls.old notices.old records.old }
-{
-    let j = read_file(rt, b"job.bin", job);
-    let t = read_file(rt, b"text.bin", text);
-    let r = read_file(rt, b"root.bin", root);
-    let ended = run_job(
-        &job[0..j],
-        &text[0..t],
-        &root[0..r],
-        calls,
-        notices,
-        records,
-    );
-    print_ended(&mut io::writer(rt), ended, calls, notices, records, line)
+fn run(rt: &(impl Files + Print)) -> io::Result<()> {
+    let mut job = [0u8; ROOM];
+    let mut text = [0u8; ROOM];
+    let mut root = [0u8; ROOM];
+    let j = read_file(rt, b"job.bin", &mut job);
+    let t = read_file(rt, b"text.bin", &mut text);
+    let r = read_file(rt, b"root.bin", &mut root);
+    let mut targets = Targets {
+        calls: [0; ROOM],
+        notices: [0; ROOM],
+        records: [0; ROOM],
+    };
+    let ended = run_job(&job[..j], &text[..t], &root[..r], &mut targets);
+    print_ended(&mut io::writer(rt), ended, &targets)
 }
 
 fn main(rt: HostRuntime) {
-    let mut job = [0u8; 65536];
-    let mut text = [0u8; 65536];
-    let mut root = [0u8; 65536];
-    let mut calls = [0u8; 65536];
-    let mut notices = [0u8; 65536];
-    let mut records = [0u8; 65536];
-    // the longest of the three lines has three bytes for each of a full target, its word and a line feed
-    let mut line = [0u8; 196800];
-    let printed = run(
-        &rt,
-        &mut job,
-        &mut text,
-        &mut root,
-        &mut calls,
-        &mut notices,
-        &mut records,
-        &mut line,
-    );
-    if printed.is_err() {
+    if run(&rt).is_err() {
         let _ = rt.eprintln(CANNOT_WRITE);
     }
 }

@@ -11,10 +11,12 @@ mod tape_answers;
 mod text_answers;
 
 use files::read_full;
+use numbers::Tally;
+use random::Sums;
 use std::io;
 use std::io::{Read, Result, Write};
 use vectors::answers::{Answer, MOST, named, same_values, values_of};
-use vectors::lines::{after, before, next_line, next_word, word_count};
+use vectors::lines::{Lines, after, before, next_word, word_count};
 use vectors::values::{WORDS, hex_bytes, letters_of};
 
 // The input's size has to be below this.
@@ -101,12 +103,8 @@ fn run_line(out: &mut impl Write, line: &[u8], number: usize) -> Result<Outcome>
 fn run_lines(out: &mut impl Write, s: &[u8]) -> Result<()> {
     let mut vectors: usize = 0;
     let mut differ: usize = 0;
-    let mut number = 0;
-    let mut left = s;
-    while let Some((line, behind)) = next_line(left) {
-        left = behind;
-        number += 1;
-        match run_line(out, line, number)? {
+    for (i, line) in (Lines { left: s }).enumerate() {
+        match run_line(out, line, i + 1)? {
             Outcome::Passed => {}
             Outcome::Same => vectors += 1,
             Outcome::Differs => {
@@ -122,17 +120,19 @@ fn run_lines(out: &mut impl Write, s: &[u8]) -> Result<()> {
 fn run(out: &mut impl Write, vectors: &[u8]) -> Result<()> {
     run_lines(out, vectors)?;
     let texts = 4096;
-    let sums = random::run(texts);
-    let well_formed = sums.well_formed;
-    let checksum = sums.checksum;
+    let Sums {
+        well_formed,
+        checksum,
+    } = random::run(texts);
     writeln!(
         out,
         "{texts} random texts, {well_formed} well-formed, checksum {checksum}"
     )?;
-    let tally = numbers::run();
-    let numbers = tally.numbers;
-    let differ = tally.differ;
-    let checksum = tally.checksum;
+    let Tally {
+        numbers,
+        differ,
+        checksum,
+    } = numbers::run();
     writeln!(
         out,
         "{numbers} numbers, {differ} differ, checksum {checksum}"

@@ -1,21 +1,7 @@
 // Answers out of what the two crates return.
 use commands::root::Place;
-use text::bytes::same;
 use text::spans::Span;
 use vectors::answers::{Answer, named, no_values, with_value};
-use vectors::lines::next_word;
-
-// The word itself, if it is one of a table's.
-pub fn word_in(s: &[u8], table: &[u8]) -> Answer {
-    let mut left = table;
-    while let Some((word, behind)) = next_word(left) {
-        if same(s, word) {
-            return named(s);
-        }
-        left = behind;
-    }
-    named(b"none")
-}
 
 pub fn with_number(name: &[u8], n: u64) -> Answer {
     with_value(named(name), n)

@@ -1,5 +1,7 @@
 // Numbers of four bytes, written and read: those with one byte set, all ones, then random ones. A checksum of what was written, which expected.py computes by
 // Python's own conversion, and a count of those that were not read again, whole or as two halves.
+ghost use Rattle.std.specs.Prelude.{◌≡◌, ◌<◌, ◌*◌, ◌-◌, ◌/◌, ◌%◌, ◌^◌};
+
 use crate::random::{mixed, next};
 use tape::numbers::Operand;
 use tape::target::Encode;
@@ -17,7 +19,11 @@ pub struct Tally {
     pub checksum: u32,
 }
 
-fn number_at(i: u32, drawn: u32) -> u32 {
+fn number_at(i: u32, drawn: u32) -> u32
+    ensures one_byte { i < 1024 → result ≡ i % 256 * 256 ^ (i / 256) }
+    ensures all_ones { i ≡ 1024 → result ≡ 2 ^ 32 - 1 }
+    ensures random { 1024 < i → result ≡ drawn }
+{
     if i < ONE_BYTE {
         let mut bytes = [0u8; 4];
         bytes[(i / 256) as usize] = (i % 256) as u8;

@@ -1,4 +1,7 @@
 // Random texts, many of them nearly UTF-8, and a checksum of where each stops being it. expected.py draws the same ones.
+ghost use Rattle.std.specs.Prelude.{◌≡◌, ◌/◌, ◌%◌, ◌^◌, length};
+ghost use Rattle.layer_test.specs.Random.{next_of, drawn, mixed};
+
 use text::utf8::first_ill_formed;
 
 #[derive(Clone, Copy)]
@@ -15,12 +18,16 @@ struct Piece {
 }
 
 // A linear congruential generator; of its draws, texts use the upper half.
-pub fn next(state: u32) -> u32 {
+pub fn next(state: u32) -> u32
+    ensures { result ≡ next_of state }
+{
     state.wrapping_mul(1664525).wrapping_add(1013904223)
 }
 
 // A checksum with one more value.
-pub fn mixed(sum: u32, value: u8) -> u32 {
+pub fn mixed(sum: u32, value: u8) -> u32
+    ensures { result ≡ mixed sum value }
+{
     sum.wrapping_mul(31).wrapping_add(u32::from(value))
 }
 
@@ -52,7 +59,9 @@ fn chosen(draw: u32, left: u8, plain: bool) -> Piece {
 }
 
 // Fills a text, and answers the generator's state after it.
-fn fill(out: &mut [u8], start: u32, plain: bool) -> u32 {
+fn fill(out: &mut [u8], start: u32, plain: bool) -> u32
+    ensures { result ≡ drawn (length out.old) start }
+{
     let mut state = start;
     let mut left = 0;
     for byte in out.iter_mut() {
@@ -65,7 +74,9 @@ fn fill(out: &mut [u8], start: u32, plain: bool) -> u32 {
 }
 
 // Draws a text of up to 127 bytes, one in four of them plain: the generator's state after it, and where it is ill-formed.
-fn text_from(state: u32) -> (u32, Option<usize>) {
+fn text_from(state: u32) -> (u32, Option<usize>)
+    ensures { result.0 ≡ drawn (next_of state / 65536 % 128) (next_of state) }
+{
     let mut space = [0u8; 128];
     let first = next(state);
     let length = (first / 65536 % 128) as usize;

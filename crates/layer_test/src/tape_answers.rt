@@ -20,17 +20,7 @@ pub fn answer(operation: &[u8], bytes: &[u8]) -> Answer {
         b"u32" => read_and_written::<u32>(bytes),
         b"span" => read_and_written::<Span>(bytes),
         b"far" => far(bytes),
-        b"flags" => flags(bytes),
-        b"option" => option(bytes),
-        b"heritage" => heritage(bytes),
-        b"scope" => scope(bytes),
-        b"name" => name(bytes),
-        b"member" => member(bytes),
-        b"attribute" => attribute(bytes),
-        b"property" => property(bytes),
-        b"value" => value(bytes),
-        b"child" => child(bytes),
-        _ => in_target(operation, bytes),
+        _ => command(operation, bytes).unwrap_or_else(failed),
     }
 }
 
@@ -78,20 +68,11 @@ fn in_target(operation: &[u8], s: &[u8]) -> Answer {
     let [length, at, bytes @ ..] = s else {
         return named(b"unknown");
     };
-    let mut target = [0xee; 10];
-    if 10 < *length {
+    let mut space = [0xee; 10];
+    let Some(target) = space.get_mut(..usize::from(*length)) else {
         return named(b"long");
-    }
-    put_into(
-        operation,
-        &mut target[..usize::from(*length)],
-        usize::from(*at),
-        bytes,
-    )
-}
-
-fn put_into(operation: &[u8], target: &mut [u8], at: usize, s: &[u8]) -> Answer {
-    match put_operation(operation, target, at, s) {
+    };
+    match put_operation(operation, target, usize::from(*at), bytes) {
         Some(next) => with_bytes(with_value(no_values(), next as u64), target),
         None => named(b"unknown"),
     }
@@ -139,7 +120,7 @@ fn far(s: &[u8]) -> Answer {
     with_value(no_values(), (end - next) as u64)
 }
 
-// ---- commands: what can be wrong with one
+// ---- commands, or what is wrong with one
 
 fn failed(error: CommandError) -> Answer {
     match error {
@@ -149,113 +130,107 @@ fn failed(error: CommandError) -> Answer {
     }
 }
 
-// ---- commands of the opening tape
-
-fn flags(s: &[u8]) -> Answer {
-    match flags_command_at(s) {
-        Ok(n) => with_number(b"flags", n as u64),
-        Err(error) => failed(error),
+fn command(operation: &[u8], s: &[u8]) -> Result<Answer, CommandError> {
+    match operation {
+        b"flags" => Ok(with_number(b"flags", flags_command_at(s)? as u64)),
+        b"option" => option(s),
+        b"heritage" => Ok(with_number(b"heritage", heritage_command_at(s)? as u64)),
+        b"scope" => scope(s),
+        b"name" => name(s),
+        b"member" => member(s),
+        b"attribute" => attribute(s),
+        b"property" => property(s),
+        b"value" => value(s),
+        b"child" => child(s),
+        _ => Ok(in_target(operation, s)),
     }
 }
 
+// ---- commands of the opening tape
+
 // The first byte is the last of 61 to 64 that has come.
-fn option(s: &[u8]) -> Answer {
+fn option(s: &[u8]) -> Result<Answer, CommandError> {
     let Some((last, tape)) = s.split_first() else {
-        return named(b"short");
+        return Ok(named(b"short"));
     };
-    match option_command_at(*last, tape) {
-        Ok(None) => named(b"end"),
-        Ok(Some(OptionCommand::Pragma(p))) => with_span(b"pragma", p),
-        Ok(Some(OptionCommand::PragmaFrag(p))) => with_span(b"pragmafrag", p),
-        Ok(Some(OptionCommand::ImportSource(p))) => with_span(b"importsource", p),
-        Ok(Some(OptionCommand::Comment(p))) => with_span(b"comment", p),
-        Err(error) => failed(error),
-    }
+    Ok(match option_command_at(*last, tape)? {
+        None => named(b"end"),
+        Some(OptionCommand::Pragma(p)) => with_span(b"pragma", p),
+        Some(OptionCommand::PragmaFrag(p)) => with_span(b"pragmafrag", p),
+        Some(OptionCommand::ImportSource(p)) => with_span(b"importsource", p),
+        Some(OptionCommand::Comment(p)) => with_span(b"comment", p),
+    })
 }
 
 // ---- commands of the root tape
 
-fn heritage(s: &[u8]) -> Answer {
-    match heritage_command_at(s) {
-        Ok(kind) => with_number(b"heritage", kind as u64),
-        Err(error) => failed(error),
-    }
-}
-
 // The first byte says whether a scope of kind 2 or 3 has come.
-fn scope(s: &[u8]) -> Answer {
+fn scope(s: &[u8]) -> Result<Answer, CommandError> {
     let Some((found, tape)) = s.split_first() else {
-        return named(b"short");
+        return Ok(named(b"short"));
     };
-    match scope_command_at(*found == 1, tape) {
-        Ok(ScopeCommand::Scope(kind)) => with_number(b"scope", kind as u64),
-        Ok(ScopeCommand::Element(p)) => with_place(b"element", p),
-        Ok(ScopeCommand::Fragment(p)) => with_place(b"fragment", p),
-        Err(error) => failed(error),
-    }
+    Ok(match scope_command_at(*found == 1, tape)? {
+        ScopeCommand::Scope(kind) => with_number(b"scope", kind as u64),
+        ScopeCommand::Element(p) => with_place(b"element", p),
+        ScopeCommand::Fragment(p) => with_place(b"fragment", p),
+    })
 }
 
-fn name(s: &[u8]) -> Answer {
-    match name_command_at(s) {
-        Ok(NameCommand::Plain(p)) => with_span(b"plain", p),
-        Ok(NameCommand::Identifier(p)) => with_span(b"identifier", p),
-        Ok(NameCommand::This) => named(b"this"),
-        Ok(NameCommand::Namespaced(p, q)) => and_span(with_span(b"namespaced", p), q),
-        Err(error) => failed(error),
-    }
+fn name(s: &[u8]) -> Result<Answer, CommandError> {
+    Ok(match name_command_at(s)? {
+        NameCommand::Plain(p) => with_span(b"plain", p),
+        NameCommand::Identifier(p) => with_span(b"identifier", p),
+        NameCommand::This => named(b"this"),
+        NameCommand::Namespaced(p, q) => and_span(with_span(b"namespaced", p), q),
+    })
 }
 
-fn member(s: &[u8]) -> Answer {
-    match member_command_at(s) {
-        Ok(Some(p)) => with_span(b"member", p),
-        Ok(None) => named(b"other"),
-        Err(error) => failed(error),
-    }
+fn member(s: &[u8]) -> Result<Answer, CommandError> {
+    Ok(match member_command_at(s)? {
+        Some(p) => with_span(b"member", p),
+        None => named(b"other"),
+    })
 }
 
-fn attribute(s: &[u8]) -> Answer {
-    match attribute_command_at(s) {
-        Ok(AttributeCommand::Plain(p)) => with_span(b"plain", p),
-        Ok(AttributeCommand::Namespaced(p, q)) => and_span(with_span(b"namespaced", p), q),
-        Ok(AttributeCommand::Spread(e)) => with_number(b"spread", e as u64),
-        Ok(AttributeCommand::Literal(e)) => with_number(b"literal", e as u64),
-        Ok(AttributeCommand::End) => named(b"end"),
-        Err(error) => failed(error),
-    }
+fn attribute(s: &[u8]) -> Result<Answer, CommandError> {
+    Ok(match attribute_command_at(s)? {
+        AttributeCommand::Plain(p) => with_span(b"plain", p),
+        AttributeCommand::Namespaced(p, q) => and_span(with_span(b"namespaced", p), q),
+        AttributeCommand::Spread(e) => with_number(b"spread", e as u64),
+        AttributeCommand::Literal(e) => with_number(b"literal", e as u64),
+        AttributeCommand::End => named(b"end"),
+    })
 }
 
-fn property(s: &[u8]) -> Answer {
-    match property_command_at(s) {
-        Ok(PropertyCommand::Property(e)) => with_number(b"property", e as u64),
-        Ok(PropertyCommand::Named(e, p)) => and_span(with_number(b"named", e as u64), p),
-        Ok(PropertyCommand::End) => named(b"end"),
-        Err(error) => failed(error),
-    }
+fn property(s: &[u8]) -> Result<Answer, CommandError> {
+    Ok(match property_command_at(s)? {
+        PropertyCommand::Property(e) => with_number(b"property", e as u64),
+        PropertyCommand::Named(e, p) => and_span(with_number(b"named", e as u64), p),
+        PropertyCommand::End => named(b"end"),
+    })
 }
 
-fn value(s: &[u8]) -> Answer {
-    match value_command_at(s) {
-        Ok(ValueCommand::Absent) => named(b"absent"),
-        Ok(ValueCommand::Text(p)) => with_span(b"text", p),
-        Ok(ValueCommand::Expression(e)) => with_number(b"expression", e as u64),
-        Ok(ValueCommand::Empty) => named(b"empty"),
-        Ok(ValueCommand::Element(p)) => with_place(b"element", p),
-        Ok(ValueCommand::Fragment(p)) => with_place(b"fragment", p),
-        Err(error) => failed(error),
-    }
+fn value(s: &[u8]) -> Result<Answer, CommandError> {
+    Ok(match value_command_at(s)? {
+        ValueCommand::Absent => named(b"absent"),
+        ValueCommand::Text(p) => with_span(b"text", p),
+        ValueCommand::Expression(e) => with_number(b"expression", e as u64),
+        ValueCommand::Empty => named(b"empty"),
+        ValueCommand::Element(p) => with_place(b"element", p),
+        ValueCommand::Fragment(p) => with_place(b"fragment", p),
+    })
 }
 
-fn child(s: &[u8]) -> Answer {
-    match child_command_at(s) {
-        Ok(ChildCommand::Text(p)) => with_span(b"text", p),
-        Ok(ChildCommand::Expression(e)) => with_number(b"expression", e as u64),
-        Ok(ChildCommand::Empty) => named(b"empty"),
-        Ok(ChildCommand::Spread(e)) => with_number(b"spread", e as u64),
-        Ok(ChildCommand::Element(p)) => with_place(b"element", p),
-        Ok(ChildCommand::Fragment(p)) => with_place(b"fragment", p),
-        Ok(ChildCommand::End) => named(b"end"),
-        Err(error) => failed(error),
-    }
+fn child(s: &[u8]) -> Result<Answer, CommandError> {
+    Ok(match child_command_at(s)? {
+        ChildCommand::Text(p) => with_span(b"text", p),
+        ChildCommand::Expression(e) => with_number(b"expression", e as u64),
+        ChildCommand::Empty => named(b"empty"),
+        ChildCommand::Spread(e) => with_number(b"spread", e as u64),
+        ChildCommand::Element(p) => with_place(b"element", p),
+        ChildCommand::Fragment(p) => with_place(b"fragment", p),
+        ChildCommand::End => named(b"end"),
+    })
 }
 
 // ---- refusals, by name and place

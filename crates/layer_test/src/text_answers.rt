@@ -1,5 +1,5 @@
 // What the crate `text` says of an operation's bytes.
-use crate::making::{place_found, word_in};
+use crate::making::place_found;
 use tape::numbers::Operand;
 use text::bytes::{find_byte, find_over_ascii};
 use text::chars::{first_char, is_line_terminator, is_white_space};
@@ -11,13 +11,12 @@ pub fn well_formed(s: &[u8]) -> Answer {
     place_found(first_ill_formed(s))
 }
 
-// The code point and the width; 0 and 0 where no character stands.
+// The code point and the width; two zeros where no character stands.
 pub fn character(s: &[u8]) -> Answer {
-    let (code, width) = match first_char(s) {
-        Some(c) => (c.code as u64, c.width as u64),
-        None => (0, 0),
-    };
-    with_value(with_value(no_values(), code), width)
+    match first_char(s) {
+        Some(c) => with_value(with_value(no_values(), c.code as u64), c.width as u64),
+        None => with_bytes(no_values(), &[0, 0]),
+    }
 }
 
 pub fn class(s: &[u8]) -> Answer {
@@ -29,11 +28,16 @@ pub fn class(s: &[u8]) -> Answer {
 }
 
 // Four bytes say the span, the text follows.
+fn span_and_text<'a>(s: &'a [u8]) -> Option<(Span, &'a [u8])> {
+    let (span, text) = s.split_at_checked(4)?;
+    Some((Span::read(span, 0), text))
+}
+
 pub fn bounds(s: &[u8]) -> Answer {
-    if s.len() < 4 {
+    let Some((span, text)) = span_and_text(s) else {
         return named(b"short");
-    }
-    match span_bounds(&s[4..], Span::read(s, 0)) {
+    };
+    match span_bounds(text, span) {
         Bounds::Outside => named(b"outside"),
         Bounds::Cuts => named(b"cuts"),
         Bounds::Empty => named(b"empty"),
@@ -42,10 +46,10 @@ pub fn bounds(s: &[u8]) -> Answer {
 }
 
 pub fn part_bytes(s: &[u8]) -> Answer {
-    if s.len() < 4 {
-        return named(b"short");
+    match span_and_text(s) {
+        Some((span, text)) => with_bytes(no_values(), part(text, span)),
+        None => named(b"short"),
     }
-    with_bytes(no_values(), part(&s[4..], Span::read(s, 0)))
 }
 
 // The first byte is looked for in the others.
@@ -60,11 +64,19 @@ pub fn over_ascii(s: &[u8]) -> Answer {
     place_found(find_over_ascii(s))
 }
 
-// The words that the project compares with.
-const WORDS: [u8; 74] =
-    *b"key __proto__ this import meta classic automatic Frag Runtime ImportSource";
-
-// Which of them s is.
+// Which of the words that the project compares with s is.
 pub fn fixed_word(s: &[u8]) -> Answer {
-    word_in(s, &WORDS)
+    match s {
+        b"key"
+        | b"__proto__"
+        | b"this"
+        | b"import"
+        | b"meta"
+        | b"classic"
+        | b"automatic"
+        | b"Frag"
+        | b"Runtime"
+        | b"ImportSource" => named(s),
+        _ => named(b"none"),
+    }
 }

@@ -28,7 +28,7 @@ use Rattle.definitions.specs.Entries.{Lowered, Outcome, lowered_after, fitted, j
 use Rattle.definitions.proofs.Verdicts.{past, past_at, length_laid, sound_parts, Taken, root_taken}
 use Rattle.definitions.proofs.Moving.{root_sound}
 use Rattle.definitions.proofs.Counting.{either_false}
-use Rattle.root_check.specs.declared.check.TapeError.{TapeError}
+use Rattle.tape.specs.declared.refusal.TapeError.{TapeError}
 use Rattle.root_check.specs.Checking.{checked}
 use Rattle.lowering.specs.Steps.{Text, Going, Unforged, judge_tape, tape_outcome, answer_of, Comes}
 

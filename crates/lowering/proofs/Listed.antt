@@ -1,12 +1,13 @@
 -- Lists of roots (`roots_in` of specs/RootLists) as the loop over them goes: what is ahead at a place, and what is left of a series of roots there.
---     cut_length, cut_root, whole             what is ahead, by the code's tests
+--     cut_length, ahead_by                    what is ahead, by the code's tests
 --     one_more                                what a root's outcome makes of a world
 --     Left, left_all, left_root, left_end     the series from a place of the list on
 --     Row, row_all, row_end, row_refused, row_root     the same up to the first root that is refused
 --     list_long, list_ill, list_forged, list_going, list_tested     text and state before the roots, by the code's tests
 --     run_is                                  what a run comes to; what it leaves is a series of roots
 -- Assumes nothing.
-use Rattle.std.specs.Prelude.{Err, None, Ok, Option, Result, Some, ⊤}
+use Rattle.std.specs.List.{IsSplitAt}
+use Rattle.std.specs.Prelude.{MatchOption, Err, None, Ok, Option, Result, Some, ⊤}
 use mathlib.Core.Path.{◌≡◌, refl, sym, ap, subst, ◌∙◌}
 use mathlib.Core.Bool.{Bool, true, false, not, ◌||◌}
 use mathlib.Core.List.{List, [], ◌∷◌}
@@ -51,14 +52,21 @@ module _ (l : List ℕ) (h : 2 ≤ length l) where
   two : l ≡ get_or l 0 0 ∷ get_or l 1 0 ∷ drop 2 l
   two = drop_one l 0 (omega arith) ∙ ap (λ (u : List ℕ). get_or l 0 0 ∷ u) (drop_one l 1 (omega arith))
 
-  pub cut_root : (n : ℕ) → n ≡ u16_at l 0 → length l - 2 < n → (most : ℕ) → roots_from (suc most) l ≡ roots_by most None
+  cut_root : (n : ℕ) → n ≡ u16_at l 0 → length l - 2 < n → (most : ℕ) → roots_from (suc most) l ≡ roots_by most None
   unfolding roots_from roots_by
   cut_root n e k most = rw (two, ← e, lt-ltb (length (drop 2 l)) n (omega (arith, length-drop 2 l)))
 
-  pub whole : (n : ℕ) (r : Ahead) → n ≡ u16_at l 0 → n ≤ length l - 2 → r.0.now ≡ take n (drop 2 l) → r.1.now ≡ drop n (drop 2 l) → (most : ℕ)
+  whole : (n : ℕ) (r : Ahead) → n ≡ u16_at l 0 → n ≤ length l - 2 → r.0.now ≡ take n (drop 2 l) → r.1.now ≡ drop n (drop 2 l) → (most : ℕ)
       → roots_from (suc most) l ≡ roots_by most (Some r)
   unfolding roots_from roots_by
   whole n r e k f g most = rw (two, ← e, le-ltb (length (drop 2 l)) n (omega (arith, length-drop 2 l)), f, g)
+
+-- by a split of what follows the length
+pub ahead_by : (l t : List ℕ) (n : ℕ) → 2 ≤ length l → t ≡ drop 2 l → n ≡ u16_at l 0 → (r : Option Ahead)
+    → MatchOption r (length t < n) (λ p. IsSplitAt t n p.0.now p.1.now) → (most : ℕ) → roots_from (suc most) l ≡ roots_by most r
+ahead_by l t n h e k None m most = cut_root l h n k (omega (arith, m, ap length e, length-drop 2 l)) most
+ahead_by l t n h e k (Some p) m most =
+    whole l h n p k (omega (arith, m.0, ap length e, length-drop 2 l)) (m.1 ∙ ap (λ (x : List ℕ). take n x) e) (m.2 ∙ ap (λ (x : List ℕ). drop n x) e) most
 
 -- ---- a root more
 

@@ -2,12 +2,13 @@
 --     Counted, counts      what the first run tells
 --     no_number, no_bound, no_notice_room, all_fits     the answers by the code's tests
 --     surely_fits          what needs no counting
---     written              what the second run comes to
+--     written, comes_as    what the second run comes to
 -- Assumes nothing.
 use Rattle.std.specs.Prelude.{Err, Ok}
 use mathlib.Core.Path.{◌≡◌, refl, sym, ap, subst, ◌∙◌}
 use mathlib.Core.Bool.{true, false}
 use mathlib.Core.List.{List}
+use Rattle.std.proofs.Common.{MutBor}
 use Prim.Native.Nat.{ℕ, ◌-◌, ◌≤◌, ◌<◌, ◌^◌}
 use native.Mathlib.Omega.{arith}
 use lib.ListN.{length}
@@ -24,7 +25,7 @@ use Rattle.definitions.specs.Tree.{Root}
 use Rattle.definitions.specs.Reading.{read_root}
 use Rattle.definitions.specs.Lowering.{lower_root}
 use Rattle.definitions.specs.States.{live, imports}
-use Rattle.definitions.specs.Entries.{Lowered, lowered_after, fitted, moved, outcome_by}
+use Rattle.definitions.specs.Entries.{Lowered, lowered_after, fitted, moved, Outcome, outcome_by}
 use Rattle.definitions.proofs.Fewness.{bound_few}
 use Rattle.definitions.proofs.Notes.{root_notes}
 use Rattle.store.proofs.Adding.{held_moved}
@@ -38,9 +39,9 @@ use Rattle.lowering.proofs.Judging.{good_tape, fits}
 use Rattle.lowering.specs.Steps.{Ready, judge_tape, tape_outcome, answer_of, Comes}
 
 -- what lowering promises of a run
-abbrev pub Ran : List ℕ → State → List ℕ → List ℕ → List ℕ → List ℕ → List ℕ → Pen → Pen → Type 0
-Ran text s tape cs cs' ns ns' p p' =
-    (o : Root) (u : ℕ) → read_root text tape ≡ done o u → Produced (lower_root text s.settings o) cs cs' ns ns' p p'
+abbrev pub Ran : List ℕ → State → List ℕ → Pen → Pen → Type 0
+Ran text s tape p p' =
+    (o : Root) (u : ℕ) → read_root text tape ≡ done o u → Produced (lower_root text s.settings o) p p'
 
 -- ---- the run that counts
 
@@ -48,17 +49,17 @@ pub record Counted (text : List ℕ) (s : State) (tape : List ℕ) (call_room no
   pub lowered : Lowered
   pub judges : judge_tape text s tape call_room notice_room ≡ fitted s call_room notice_room lowered
   pub full : p.full ≡ ltb 8 (length lowered.bound)
-  pub calls : p.calls ≡ length lowered.calls
-  pub notices : p.notices ≡ length lowered.notices
+  pub calls : p.call_place ≡ length lowered.calls
+  pub notices : p.notice_place ≡ length lowered.notices
 
 module _ {text : List ℕ} {s : State} {tape : List ℕ} {call_room notice_room : ℕ} (ready : Ready text s tape call_room notice_room) where
-  pub counts : length s.records ≡ 8 → {cs cs' ns ns' : List ℕ} {p q : Pen} → p ≡ pen_of s 0 0 → Ran text s tape cs cs' ns ns' p q
-      → Counted text s tape call_room notice_room q
-  counts eight {cs} {cs'} {ns} {ns'} {p} {q} start run =
-      let ran : Ran text s tape cs cs' ns ns' (pen_of s 0 0) q = subst (λ (x : Pen). Ran text s tape cs cs' ns ns' x q) start run in
+  pub counts : length s.records ≡ 8 → {calls notices : MutBor (List ℕ)} {p q : Pen} → length calls.now ≤ 2 ^ 63 → length notices.now ≤ 2 ^ 63
+      → p ≡ pen_of s calls notices 0 0 → Ran text s tape p q → Counted text s tape call_room notice_room q
+  counts eight {calls} {notices} {p} {q} short short' start run =
+      let ran : Ran text s tape (pen_of s calls notices 0 0) q = subst (λ (x : Pen). Ran text s tape x q) start run in
       let good = checked_good (read_root text tape) ready.reads in
       let o = good.0 in
-      let e = ran o good.1 good.2 s.records (imports (live s)) (state_stands text s 0 0 eight ready.unforged.bore (omega arith) (omega arith)) in
+      let e = (ran o good.1 good.2).1 s.records (imports (live s)) (state_stands text s calls notices 0 0 eight ready.unforged.bore short short' (omega arith) (omega arith)) in
       let few : good.1 ≤ 65535 = omega (arith, root_in_order text tape o good.1 good.2, ready.unforged.spelled.tape_short) in
       let c = counted text tape s.settings (imports (live s)) o good.1 ready.unforged.spelled.short few good.2 refl refl refl e in
       record {
@@ -75,21 +76,21 @@ module _ {text : List ℕ} {s : State} {tape : List ℕ} {call_room notice_room 
   no_number h = rw (c.judges, told c.full h)
 
   module _ (free : p.full ≡ false) where
-    pub no_bound : call_room - s.calls < p.calls → Err (refusal.Space p.calls) ≡ answer_of (judge_tape text s tape call_room notice_room)
+    pub no_bound : call_room - s.calls < p.call_place → Err (refusal.Space p.call_place) ≡ answer_of (judge_tape text s tape call_room notice_room)
     unfolding fitted refuse answer_of
-    no_bound h = rw (c.judges, told c.full free, ← c.calls, lt-ltb (call_room - s.calls) p.calls h)
+    no_bound h = rw (c.judges, told c.full free, ← c.calls, lt-ltb (call_room - s.calls) p.call_place h)
 
-    module _ (room : p.calls ≤ call_room - s.calls) where
-      pub no_notice_room : notice_room - s.notices < p.notices
-          → Err (refusal.NoticeSpace p.notices) ≡ answer_of (judge_tape text s tape call_room notice_room)
+    module _ (room : p.call_place ≤ call_room - s.calls) where
+      pub no_notice_room : notice_room - s.notices < p.notice_place
+          → Err (refusal.NoticeSpace p.notice_place) ≡ answer_of (judge_tape text s tape call_room notice_room)
       unfolding fitted refuse answer_of
       no_notice_room h =
-          rw (c.judges, told c.full free, ← c.calls, ← c.notices, le-ltb (call_room - s.calls) p.calls room, lt-ltb (notice_room - s.notices) p.notices h)
+          rw (c.judges, told c.full free, ← c.calls, ← c.notices, le-ltb (call_room - s.calls) p.call_place room, lt-ltb (notice_room - s.notices) p.notice_place h)
 
-      pub all_fits : p.notices ≤ notice_room - s.notices → (Ok tt) ≡ answer_of (judge_tape text s tape call_room notice_room)
+      pub all_fits : p.notice_place ≤ notice_room - s.notices → (Ok tt) ≡ answer_of (judge_tape text s tape call_room notice_room)
       unfolding fitted refuse answer_of
       all_fits h =
-          rw (c.judges, told c.full free, ← c.calls, ← c.notices, le-ltb (call_room - s.calls) p.calls room, le-ltb (notice_room - s.notices) p.notices h)
+          rw (c.judges, told c.full free, ← c.calls, ← c.notices, le-ltb (call_room - s.calls) p.call_place room, le-ltb (notice_room - s.notices) p.notice_place h)
 
 -- ---- what needs no counting
 
@@ -119,15 +120,19 @@ abbrev pub after : State → Pen → Stepped
 after s p =
     record {
       answer = Ok tt;
-      state = record { settings = s.settings; records = p.store.records; count = p.store.count; calls = p.calls; notices = p.notices };
+      state = record { settings = s.settings; records = p.store.records; count = p.store.count; calls = p.call_place; notices = p.notice_place };
     }
 
-pub written : {text : List ℕ} {s : State} {tape cs cs' ns ns' : List ℕ} {p q : Pen} → Ready text s tape (length cs) (length ns)
-    → answer_of (judge_tape text s tape (length cs) (length ns)) ≡ Ok tt → length s.records ≡ 8 → length cs < 2 ^ 63 → length ns < 2 ^ 63
-    → p ≡ pen_of s s.calls s.notices → Ran text s tape cs cs' ns ns' p q → Comes (tape_outcome text s tape cs ns) (after s q) cs' ns'
+pub written : {text : List ℕ} {s : State} {tape : List ℕ} {calls notices : MutBor (List ℕ)} {p q : Pen} → Ready text s tape (length calls.now) (length notices.now)
+    → answer_of (judge_tape text s tape (length calls.now) (length notices.now)) ≡ Ok tt → length s.records ≡ 8 → length calls.now < 2 ^ 63 → length notices.now < 2 ^ 63
+    → p ≡ pen_of s calls notices s.calls s.notices → Ran text s tape p q
+    → Comes (tape_outcome text s tape calls.now notices.now) (after s q) q.calls.now q.notices.now
 unfolding tape_outcome outcome_by lowered_after
-written {text} {s} {tape} {cs} {cs'} {ns} {ns'} {p} {q} ready accepts eight short short' start run =
-    let ran : Ran text s tape cs cs' ns ns' (pen_of s s.calls s.notices) q = subst (λ (x : Pen). Ran text s tape cs cs' ns ns' x q) start run in
+written {text} {s} {tape} {calls} {notices} {p} {q} ready accepts eight short short' start run =
+    let cs = calls.now in
+    let ns = notices.now in
+    let before = pen_of s calls notices s.calls s.notices in
+    let ran : Ran text s tape before q = subst (λ (x : Pen). Ran text s tape x q) start run in
     let good = checked_good (read_root text tape) ready.reads in
     let o = good.0 in
     let js = imports (live s) in
@@ -136,9 +141,9 @@ written {text} {s} {tape} {cs} {cs'} {ns} {ns'} {p} {q} ready accepts eight shor
     good_tape text s tape (length cs) (length ns) o good.1 good.2 in
     let f = fits s (length cs) (length ns) l (ap answer_of (sym judges) ∙ accepts) in
     let u = ready.unforged in
-    let e : Emitted s.records js (lower_root text s.settings o) cs cs' ns ns' (pen_of s s.calls s.notices) q =
-    ran o good.1 good.2 s.records js
-    (state_stands text s s.calls s.notices eight u.bore (omega (arith, u.calls_within)) (omega (arith, u.notices_within))) in
+    let e : Emitted s.records js (lower_root text s.settings o) before q =
+    (ran o good.1 good.2).1 s.records js
+    (state_stands text s calls notices s.calls s.notices eight u.bore (omega arith) (omega arith) (omega (arith, u.calls_within)) (omega (arith, u.notices_within))) in
     let free : q.full ≡ false = e.fullness ∙ le-ltb 8 (length l.bound) f.0 in
     let x = call_room_enough e short (omega (arith, e.call_place, u.calls_within, f.1)) free in
     let y = notice_room_enough e short' (omega (arith, e.notice_place, u.notices_within, f.2)) in
@@ -149,3 +154,7 @@ written {text} {s} {tape} {cs} {cs'} {ns} {ns'} {p} {q} ready accepts eight shor
     })
     ∙ ap (λ (t : State). record { answer = Ok tt; state = t }) (held_moved s l (e.stands.store free)) in
     rw (judges ∙ f.3) (record { answered = m; called = x.1; noticed = y.1 })
+
+-- the targets that were lent are those that the pen held
+pub comes_as : {o : Outcome} {t : Stepped} {cs cs' ns ns' : List ℕ} → Comes o t cs ns → cs' ≡ cs → ns' ≡ ns → Comes o t cs' ns'
+comes_as c e f = record { answered = c.answered; called = e ∙ c.called; noticed = f ∙ c.noticed }

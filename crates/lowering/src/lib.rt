@@ -35,20 +35,15 @@ fn stepped(state: State, after: Result<State, Refusal>) -> Stepped
     }
 }
 
-// A pen over the state's records, at these places.
-fn pen_over(state: State, calls: usize, notices: usize) -> Pen
+// The store of a state's records.
+fn store_of(state: State) -> Store
     requires { state.count ≤ 8 }
-    ensures { result ≡ record { calls = calls; notices = notices; store = store_of state; full = false } }
+    ensures { result ≡ store_of state }
 {
     let records = state.records;
-    Pen {
-        calls,
-        notices,
-        store: Store {
-            records,
-            count: state.count as u8,
-        },
-        full: false,
+    Store {
+        records,
+        count: state.count as u8,
     }
 }
 
@@ -65,22 +60,23 @@ fn fit(
 {
     let mut spare = [0u8; 1];
     let mut spare_notices = [0u8; 1];
-    let pen = lower(
-        text,
-        &state.settings,
-        tape,
-        &mut spare,
-        &mut spare_notices,
-        pen_over(state, 0, 0),
-    );
+    let mut pen = Pen {
+        calls: &mut spare,
+        notices: &mut spare_notices,
+        store: store_of(state),
+        full: false,
+        notice_place: 0,
+        call_place: 0,
+    };
+    lower(text, &state.settings, tape, &mut pen);
     if pen.full {
         return Err(Refusal::Bindings);
     }
-    if call_room - state.calls < pen.calls {
-        return Err(Refusal::Space(pen.calls));
+    if call_room - state.calls < pen.call_place {
+        return Err(Refusal::Space(pen.call_place));
     }
-    if notice_room - state.notices < pen.notices {
-        return Err(Refusal::NoticeSpace(pen.notices));
+    if notice_room - state.notices < pen.notice_place {
+        return Err(Refusal::NoticeSpace(pen.notice_place));
     }
     Ok(())
 }
@@ -91,21 +87,21 @@ fn write(text: &[u8], state: State, tape: &[u8], calls: &mut [u8], notices: &mut
     requires notices_value { answer_of (judge_tape text.now state tape.now (length calls.old) (length notices.old)) ≡ Ok tt }
     ensures { Comes (tape_outcome text.now state tape.now calls.old notices.old) (stepped state (Ok result)) calls.new notices.new }
 {
-    let pen = lower(
-        text,
-        &state.settings,
-        tape,
+    let mut pen = Pen {
         calls,
         notices,
-        pen_over(state, state.calls, state.notices),
-    );
-    let store = pen.store;
-    let records = store.records;
+        store: store_of(state),
+        full: false,
+        notice_place: state.notices,
+        call_place: state.calls,
+    };
+    lower(text, &state.settings, tape, &mut pen);
+    let records = pen.store.records;
     State {
         records,
-        count: store.count as usize,
-        calls: pen.calls,
-        notices: pen.notices,
+        count: pen.store.count as usize,
+        calls: pen.call_place,
+        notices: pen.notice_place,
         ..state
     }
 }
@@ -149,6 +145,7 @@ fn lower_tape(
 }
 
 // Text and tape are tested, then the state.
+// kept: the text's two tests stand here and in `lower_list`, as the definitions judge them within two larger judgements; a function for both would need a third
 fn lower_judged(
     text: &[u8],
     state: State,

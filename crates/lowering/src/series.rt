@@ -4,41 +4,27 @@ ghost use Rattle.definitions.specs.declared.options.Settings.{Settings};
 ghost use Rattle.text.specs.Utf8.{first_ill};
 ghost use Rattle.definitions.specs.Judging.{accepted};
 ghost use Rattle.definitions.specs.Opening.{judge_opening};
-ghost use Rattle.definitions.specs.Entries.{root_outcome};
-ghost use Rattle.definitions.specs.Series.{opening, next, series};
+ghost use Rattle.definitions.specs.Series.{opening, series};
 ghost use Rattle.definitions.specs.Claim.{Kept};
-ghost use Rattle.lowering.specs.Steps.{Going, stepped, Comes};
+ghost use Rattle.lowering.specs.Steps.{Going};
 ghost use Rattle.lowering.specs.RootLists.{roots_from, roots_in, roots_by, Stands, ending, run_tested, run, ran};
 
 use crate::{lower_root, lower_tape};
 use definitions::state::State;
 use store::forged::is_forged;
 use tape::limits::MAX_LENGTH;
-use tape::numbers::read_u16;
 use tape::refusal::{Fault, Refusal};
 use text::utf8::first_ill_formed;
 
 // The root that begins a list, behind its length, and what follows it; none where the list is cut off before its end.
-fn next_root(roots: &[u8]) -> Option<(&[u8], &[u8])>
+pub fn next_root(roots: &[u8]) -> Option<(&[u8], &[u8])>
     ensures roots_by { (most : ℕ) → roots_from (suc most) roots.now ≡ roots_by most result }
     ensures stands { Stands roots.now result }
 {
-    if roots.len() < 2 {
+    let [low, high, behind @ ..] = roots else {
         return None;
-    }
-    let size = read_u16(roots, 0) as usize;
-    let behind = &roots[2..];
-    if behind.len() < size {
-        return None;
-    }
-    Some((&behind[..size], &behind[size..]))
-}
-
-// A root more, refused or not: the state after it.
-fn lower_next(text: &[u8], state: State, root: &[u8], calls: &mut [u8], notices: &mut [u8]) -> State
-    ensures { record { state = result; calls = calls.new; notices = notices.new } ≡ next text.now (record { state = state; calls = calls.old; notices = notices.old }) root.now }
-{
-    lower_root(text, state, root, calls, notices).state
+    };
+    behind.split_at_checked(u16::from_le_bytes([*low, *high]) as usize)
 }
 
 // The roots of a list, each over the state that the last one left and the same targets; one that is refused changes nothing. Demand 3 holds of
@@ -58,7 +44,7 @@ pub fn lower_series(
     let mut last = state;
     let mut rest = roots;
     while let Some((root, behind)) = next_root(rest) {
-        last = lower_next(text, last, root, calls, notices);
+        last = lower_root(text, last, root, calls, notices).state;
         rest = behind;
     }
     last
@@ -72,21 +58,6 @@ pub struct Listed {
     pub answer: Result<(), Refusal>,
     pub state: State,
     pub taken: usize,
-}
-
-// The root itself, over a text and a state that are in order.
-fn lower_tested(
-    text: &[u8],
-    state: State,
-    root: &[u8],
-    calls: &mut [u8],
-    notices: &mut [u8],
-) -> Result<State, Refusal>
-    requires root_len_bound { length root.now ≤ 65535 }
-    requires going { Going text.now state (length calls.old) (length notices.old) }
-    ensures { Comes (root_outcome text.now state root.now calls.old notices.old) (stepped state result) calls.new notices.new }
-{
-    lower_tape(text, state, root, calls, notices)
 }
 
 // The answer behind the last whole root of a list.
@@ -112,9 +83,10 @@ fn lower_in_turn(
 {
     let mut last = state;
     let mut rest = roots;
+    // kept: the roots that were taken are counted, not bytes; a fold would carry the state, the rest and both targets through a closure
     let mut taken = 0;
     while let Some((root, behind)) = next_root(rest) {
-        match lower_tested(text, last, root, calls, notices) {
+        match lower_tape(text, last, root, calls, notices) {
             Ok(next) => {
                 last = next;
                 rest = behind;

@@ -1,36 +1,31 @@
 // Lines of what is answered.
 use crate::states::is_same;
 use definitions::state::State;
-use files::{print_bytes, print_decimal};
+use files::print_bytes;
 use std::io;
 use std::io::Write;
 use store::module_imports::write_records;
-use tape::refusal::{Refusal, figure, number};
+use tape::refusal::Refusal;
 
 // A space and two digits for each byte of the longest target.
 const LINE: usize = 4096 * 3;
 
-pub fn say(out: &mut impl Write, word: &[u8]) -> io::Result<()> {
-    out.write_all(word)
-}
-
 // All that a target holds.
 fn show_whole(out: &mut impl Write, target: &[u8]) -> io::Result<()> {
     let mut line = [0u8; LINE];
-    say(out, b":")?;
+    write!(out, ":")?;
     print_bytes(out, target, &mut line)
 }
 
 fn show_refusal(out: &mut impl Write, refusal: Refusal) -> io::Result<()> {
-    say(out, b" refused ")?;
-    print_decimal(out, number(refusal) as usize)?;
-    say(out, b" ")?;
-    print_decimal(out, figure(refusal))
+    let number = refusal.number();
+    let figure = refusal.figure();
+    write!(out, " refused {number} {figure}")
 }
 
 pub fn show_answer(out: &mut impl Write, answer: Result<(), Refusal>) -> io::Result<()> {
     match answer {
-        Ok(()) => say(out, b" accepted"),
+        Ok(()) => write!(out, " accepted"),
         Err(refusal) => show_refusal(out, refusal),
     }
 }
@@ -38,16 +33,15 @@ pub fn show_answer(out: &mut impl Write, answer: Result<(), Refusal>) -> io::Res
 // Whether a root moved the state.
 pub fn show_kept(out: &mut impl Write, before: State, after: State) -> io::Result<()> {
     if is_same(before, after) {
-        say(out, b", state kept")
+        write!(out, ", state kept")
     } else {
-        say(out, b", state moved")
+        write!(out, ", state moved")
     }
 }
 
 // How far a target is filled, and all of it.
-fn show_target(out: &mut impl Write, word: &[u8], fill: usize, target: &[u8]) -> io::Result<()> {
-    say(out, word)?;
-    print_decimal(out, fill)?;
+fn show_target(out: &mut impl Write, word: &str, fill: usize, target: &[u8]) -> io::Result<()> {
+    write!(out, "; {word} {fill}")?;
     show_whole(out, target)
 }
 
@@ -57,15 +51,15 @@ pub fn show_targets(
     calls: &[u8],
     notices: &[u8],
 ) -> io::Result<()> {
-    show_target(out, b"; calls ", state.calls, calls)?;
-    show_target(out, b"; notices ", state.notices, notices)
+    show_target(out, "calls", state.calls, calls)?;
+    show_target(out, "notices", state.notices, notices)
 }
 
 // The notices that a refused opening left, and the end of the line.
 pub fn show_left(out: &mut impl Write, notices: &[u8]) -> io::Result<()> {
-    say(out, b"; notices")?;
+    write!(out, "; notices")?;
     show_whole(out, notices)?;
-    say(out, b"\n")
+    writeln!(out)
 }
 
 // Writes the records and ends the line.
@@ -76,12 +70,12 @@ pub fn show_records(
     target: &mut [u8],
 ) -> io::Result<()> {
     match write_records(text, state, target) {
-        Ok(n) => show_target(out, b"; records ", n, target)?,
+        Ok(n) => show_target(out, "records", n, target)?,
         Err(refusal) => {
-            say(out, b"; records")?;
+            write!(out, "; records")?;
             show_refusal(out, refusal)?;
             show_whole(out, target)?;
         }
     }
-    say(out, b"\n")
+    writeln!(out)
 }

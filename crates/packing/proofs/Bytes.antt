@@ -19,9 +19,10 @@ use Rattle.definitions.specs.declared.records.Import.TheVariants.{Named}
 use Rattle.definitions.specs.declared.options.Settings.{Settings}
 use Rattle.definitions.specs.declared.state.State.{State}
 use Rattle.definitions.specs.Entries.{laid}
+use Rattle.tape.specs.Numbers.{u64_bytes}
 use Rattle.tape.specs.Targets.{Wrote}
 use Rattle.tape.proofs.Targets.{sets_room}
-use Rattle.packing.specs.Packed.{u64_bytes, weight, record_bytes, records_bytes, optional_bytes, options_bytes, form_bytes, settings_bytes, packed, packed_target}
+use Rattle.packing.specs.Packed.{weight, record_bytes, records_bytes, optional_bytes, options_bytes, form_bytes, settings_bytes, packed, packed_target}
 
 pub weighed : (b : Bool) {r : ℕ} → r ≡ bool_byte b → r ≡ weight b
 unfolding weight

@@ -13,8 +13,8 @@ use native.Mathlib.Omega.{arith}
 use lib.ListN.{length, get_or, drop}
 use lib.Dec.{eqb, ltb}
 use borrow.Author.Tests.{eqb-true, ne_eqb, ltb-true, ltb-false}
-use Rattle.tape.specs.Numbers.{u32_at, u32_bytes, span_bytes}
-use Rattle.tape.proofs.ReadBack.{u32_small, u32_back, span_back}
+use Rattle.tape.specs.Numbers.{u32_at, u64_at, u32_bytes, u64_bytes, span_bytes}
+use Rattle.tape.proofs.ReadBack.{u32_small, u64_back, span_back}
 use Rattle.definitions.specs.declared.options.Flags.{Flags}
 use Rattle.definitions.specs.declared.options.Options.{Options}
 use Rattle.definitions.specs.declared.options.Mode.{Mode}
@@ -27,9 +27,9 @@ use Rattle.definitions.specs.declared.records.Import.{Import}
 use Rattle.definitions.specs.declared.records.Import.TheVariants.{Named, Default, FileName}
 use Rattle.definitions.specs.declared.records.Record.{Record}
 use Rattle.definitions.specs.declared.state.State.{State}
-use Rattle.definitions.specs.Options.{flags_of}
+use Rattle.definitions.specs.Options.{flags_of, mode_number, mode_by, root_by}
 use Rattle.definitions.specs.States.{root_number}
-use Rattle.packing.specs.Packed.{u64_bytes, weight, flags_byte, presence, span_of, optional_bytes, mode_number, form_bytes, import_number, source_of, name_of, record_bytes, records_bytes, options_bytes, settings_bytes, packed, u64_at, optional_of, optional_good, optional_at, good_optional, mode_of, root_of, form_at, import_of, import_good, record_at, good_record, options_at, settings_at, records_at, state_at, good_options, good_settings, good_records, good, if_good, unpacked}
+use Rattle.packing.specs.Packed.{weight, flags_byte, presence, span_of, optional_bytes, form_bytes, import_number, source_of, name_of, record_bytes, records_bytes, options_bytes, settings_bytes, packed, optional_of, optional_good, optional_at, good_optional, form_at, import_of, import_good, record_at, good_record, options_at, settings_at, records_at, state_at, good_options, good_settings, good_records, good, if_good, unpacked}
 use Rattle.packing.specs.Inverse.{Back, Only}
 use Rattle.packing.proofs.Bytes.{nothing, packed_length}
 
@@ -49,12 +49,6 @@ part_all d [] = refl
 part_all d (a ∷ l) = ap (λ r. a ∷ r) (part_cons d a l 0 (length l) ∙ part_all d l)
 
 -- ---- a part from its bytes
-
-u64_back : (x : ℕ) → u64_at (u64_bytes x) 0 ≡ x
-u64_back x =
-    let lo = u32_back (x % 4294967296) (u32_bytes (x / 4294967296)) in
-    let hi = u32_back (x / 4294967296) [] in
-    (λ ι. lo ι + hi ι * 4294967296) ∙ omega arith
 
 weight_small : (b : Bool) → weight b ≤ 1
 unfolding weight
@@ -98,8 +92,8 @@ unfolding optional_good optional_bytes presence span_of
 optional_good_always None = refl
 optional_good_always (Some s) = refl
 
-mode_back : (m : Mode) → mode_of (mode_number m) ≡ m
-unfolding mode_of mode_number
+mode_back : (m : Mode) → mode_by (mode_number m) ≡ m
+unfolding mode_by mode_number
 mode_back Module = refl
 mode_back Script = refl
 mode_back Classic = refl
@@ -110,8 +104,8 @@ mode_good Module = refl
 mode_good Script = refl
 mode_good Classic = refl
 
-root_back : (r : PragmaRoot) → root_of (root_number r) ≡ r
-unfolding root_of root_number
+root_back : (r : PragmaRoot) → root_by (root_number r) ≡ r
+unfolding root_by root_number
 root_back root.Default = refl
 root_back root.This = refl
 root_back root.ImportMeta = refl
@@ -145,7 +139,7 @@ import_good_always FileName = refl
 
 form_back : (f : Form) → form_at (form_bytes f) 0 ≡ f
 unfolding form_bytes
-form_back f = λ ι. record { root = root_back f.root ι; tail = u64_back f.tail ι }
+form_back f = λ ι. record { root = root_back f.root ι; tail = u64_back f.tail [] ι }
 
 record_back : (r : Record) → record_at (record_bytes r) 0 ≡ r
 unfolding record_bytes
@@ -203,9 +197,9 @@ module _ (s : Settings) (a b c d e f g h : Record) (count calls notices : ℕ) w
             ∷ record_back g ι
             ∷ record_back h ι
             ∷ [];
-        count = u64_back count ι;
-        calls = u64_back calls ι;
-        notices = u64_back notices ι;
+        count = u64_back count [] ι;
+        calls = u64_back calls [] ι;
+        notices = u64_back notices [] ι;
       }
 
   state_good : good (packed spelled) ≡ true
@@ -292,15 +286,15 @@ flags_fore n h = flags_kept_back 256 n table h
     table : flags_kept 256 ≡ true
     table = refl
 
-mode_fore : (n : ℕ) → ltb n 3 ≡ true → mode_number (mode_of n) ≡ n
-unfolding mode_number mode_of
+mode_fore : (n : ℕ) → ltb n 3 ≡ true → mode_number (mode_by n) ≡ n
+unfolding mode_number mode_by
 mode_fore zero h = refl
 mode_fore (suc zero) h = refl
 mode_fore (suc (suc zero)) h = refl
 mode_fore (suc (suc (suc n))) h = absurd (omega (arith, ltb-true (suc (suc (suc n))) 3 h))
 
-root_fore : (n : ℕ) → ltb n 4 ≡ true → root_number (root_of n) ≡ n
-unfolding root_number root_of
+root_fore : (n : ℕ) → ltb n 4 ≡ true → root_number (root_by n) ≡ n
+unfolding root_number root_by
 root_fore zero h = refl
 root_fore (suc zero) h = refl
 root_fore (suc (suc zero)) h = refl

@@ -5,16 +5,14 @@
 --     28, 37    the forms of both pragmas, nine bytes each: the root (0 to 3) and how many parts follow it
 --     46        eight records of four bytes: what it is (0 named, 1 required, 2 the file name), source, name, binding
 --     78        three numbers of eight bytes: how many records are in use, and the fills of the call and notice targets
-use Rattle.std.specs.Prelude.{ℕ, ◌+◌, ◌*◌, ◌/◌, ◌%◌, Bool, true, false, cond, ◌&&◌, List, [], ◌∷◌, ◌++◌, length, get_or, replicate, eqb, ltb, None, Option, Some, Err, Ok, Result}
+use Rattle.std.specs.Prelude.{ℕ, ◌+◌, ◌*◌, Bool, true, false, cond, ◌&&◌, List, [], ◌∷◌, ◌++◌, length, get_or, replicate, eqb, ltb, None, Option, Some, Err, Ok, Result}
 use Rattle.text.specs.declared.spans.Span.{Span}
 use Rattle.tape.specs.declared.refusal.Refusal.{Refusal}
 use Rattle.tape.specs.declared.refusal.Refusal.TheVariants.{Space}
-use Rattle.tape.specs.Numbers.{u32_at, span_at, u32_bytes, span_bytes}
+use Rattle.tape.specs.Numbers.{u64_at, span_at, u64_bytes, span_bytes}
 use Rattle.definitions.specs.declared.options.Flags.{Flags}
 use Rattle.definitions.specs.declared.options.Options.{Options}
-use Rattle.definitions.specs.declared.options.Mode.{Mode}
-use Rattle.definitions.specs.declared.options.Mode.TheVariants.{Module, Script, Classic}
-use Rattle.definitions.specs.declared.options.PragmaRoot.{PragmaRoot}
+use Rattle.definitions.specs.declared.options.Mode.TheVariants.{Script}
 use Rattle.definitions.specs.declared.options.PragmaRoot.TheVariants as root
 use Rattle.definitions.specs.declared.options.Form.{Form}
 use Rattle.definitions.specs.declared.options.Settings.{Settings}
@@ -22,15 +20,11 @@ use Rattle.definitions.specs.declared.records.Import.{Import}
 use Rattle.definitions.specs.declared.records.Import.TheVariants.{Named, Default, FileName}
 use Rattle.definitions.specs.declared.records.Record.{Record}
 use Rattle.definitions.specs.declared.state.State.{State}
-use Rattle.definitions.specs.Options.{flags_of}
+use Rattle.definitions.specs.Options.{flags_of, mode_number, mode_by, root_by}
 use Rattle.definitions.specs.States.{root_number}
 use Rattle.definitions.specs.Entries.{laid, no_record}
 
 -- ---- a state's bytes
-
--- the bytes of a number of eight bytes
-abbrev pub u64_bytes : ℕ → List ℕ
-u64_bytes x = u32_bytes (x % 4294967296) ++ u32_bytes (x / 4294967296)
 
 unfoldable pub weight : Bool → ℕ
 weight true = 1
@@ -58,11 +52,6 @@ span_of (Some s) = s
 
 unfoldable pub optional_bytes : Option Span → List ℕ
 optional_bytes o = presence o ∷ span_bytes (span_of o)
-
-unfoldable pub mode_number : Mode → ℕ
-mode_number Module = 0
-mode_number Script = 1
-mode_number Classic = 2
 
 unfoldable pub form_bytes : Form → List ℕ
 form_bytes f = root_number f.root ∷ u64_bytes f.tail
@@ -122,9 +111,6 @@ packed_target s target = cond (ltb (length target) 102) target (laid 0 (packed s
 
 -- ---- a state from its bytes, part by part at the part's place; each part with the test that packing makes such bytes
 
-abbrev pub u64_at : List ℕ → ℕ → ℕ
-u64_at t i = u32_at t i + u32_at t (i + 4) * 4294967296
-
 unfoldable pub optional_of : ℕ → Span → Option Span
 optional_of n s = cond (eqb n 0) None (Some s)
 
@@ -137,14 +123,8 @@ optional_at t i = optional_of (get_or t i 0) (span_at t (i + 1))
 abbrev pub good_optional : List ℕ → ℕ → Bool
 good_optional t i = optional_good (get_or t i 0) (span_at t (i + 1))
 
-unfoldable pub mode_of : ℕ → Mode
-mode_of n = cond (eqb n 0) Module (cond (eqb n 1) Script Classic)
-
-unfoldable pub root_of : ℕ → PragmaRoot
-root_of n = cond (eqb n 0) root.Default (cond (eqb n 1) root.This (cond (eqb n 2) root.ImportMeta root.Identifier))
-
 abbrev pub form_at : List ℕ → ℕ → Form
-form_at t i = record { root = root_of (get_or t i 0); tail = u64_at t (i + 1) }
+form_at t i = record { root = root_by (get_or t i 0); tail = u64_at t (i + 1) }
 
 unfoldable pub import_of : ℕ → ℕ → ℕ → Import
 import_of k s n = cond (eqb k 0) (Named s n) (cond (eqb k 1) (Default s) FileName)
@@ -174,7 +154,7 @@ settings_at t =
     record {
       options = options_at t;
       pure = eqb (get_or t 26 0) 1;
-      mode = mode_of (get_or t 27 0);
+      mode = mode_by (get_or t 27 0);
       pragma = form_at t 28;
       pragma_frag = form_at t 37;
     }

@@ -4,7 +4,7 @@ const OPTIONAL_SIZE: usize = 5;
 
 const FORM_SIZE: usize = 9;
 
-const RECORD_SIZE: usize = 4;
+pub const RECORD_SIZE: usize = 4;
 
 const NUMBER_SIZE: usize = 8;
 
@@ -32,24 +32,10 @@ pub const FORM_FRAG: usize = FORM + FORM_SIZE;
 
 pub const SETTINGS_SIZE: usize = FORM_FRAG + FORM_SIZE;
 
-// The records, and behind them three numbers.
-pub const RECORD_1: usize = SETTINGS_SIZE;
+// The eight records, and behind them three numbers.
+pub const RECORDS: usize = SETTINGS_SIZE;
 
-pub const RECORD_2: usize = RECORD_1 + RECORD_SIZE;
-
-pub const RECORD_3: usize = RECORD_2 + RECORD_SIZE;
-
-pub const RECORD_4: usize = RECORD_3 + RECORD_SIZE;
-
-pub const RECORD_5: usize = RECORD_4 + RECORD_SIZE;
-
-pub const RECORD_6: usize = RECORD_5 + RECORD_SIZE;
-
-pub const RECORD_7: usize = RECORD_6 + RECORD_SIZE;
-
-pub const RECORD_8: usize = RECORD_7 + RECORD_SIZE;
-
-pub const COUNT: usize = RECORD_8 + RECORD_SIZE;
+pub const COUNT: usize = RECORDS + 8 * RECORD_SIZE;
 
 pub const CALLS: usize = COUNT + NUMBER_SIZE;
 

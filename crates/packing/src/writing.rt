@@ -1,23 +1,15 @@
 // A state's bytes, laid at the front of a lent target.
-ghost use Rattle.std.specs.Prelude.{◌≡◌, [], ◌∷◌, ◌++◌, ◌≤◌, ◌^◌, length};
+ghost use Rattle.std.specs.Prelude.{◌≡◌, length};
 ghost use Rattle.tape.specs.Targets.{Wrote};
-ghost use Rattle.packing.specs.Packed.{u64_bytes, flags_byte, optional_bytes, mode_number, form_bytes, import_number, source_of, name_of, record_bytes, records_bytes, options_bytes, settings_bytes, packed, packed_answer, packed_target};
+ghost use Rattle.packing.specs.Packed.{flags_byte, optional_bytes, form_bytes, import_number, source_of, name_of, record_bytes, records_bytes, options_bytes, settings_bytes, packed, packed_answer, packed_target};
 
 use crate::layout::STATE_SIZE;
-use definitions::options::{Flags, Form, Mode, Options, Settings};
+use definitions::options::{Flags, Form, Options, Settings};
 use definitions::records::{Import, Record};
 use definitions::state::State;
-use option_values::pragma_root_number;
 use tape::refusal::Refusal;
-use tape::target::{put, put_span, put_two, put_u32};
+use tape::target::Encode;
 use text::spans::Span;
-
-fn put_u64(x: usize, out: &mut [u8], at: usize) -> usize
-    ensures { Wrote out.old out.new at result (u64_bytes x) }
-{
-    let next = put_u32(out, at, (x % 4294967296) as u32);
-    put_u32(out, next, (x / 4294967296) as u32)
-}
 
 fn flags_byte(f: Flags) -> u8
     ensures { result ≡ flags_byte f }
@@ -32,32 +24,21 @@ fn flags_byte(f: Flags) -> u8
         + u8::from(f.module) * 128
 }
 
+#[tactic(auto, unfolding(crate::specs::Packed::optional_bytes, crate::specs::Packed::presence, crate::specs::Packed::span_of))]
 fn put_optional(o: Option<Span>, out: &mut [u8], at: usize) -> usize
     ensures { Wrote out.old out.new at result (optional_bytes o) }
 {
     match o {
-        None => {
-            let next = put(out, at, 0);
-            put_u32(out, next, 0)
-        }
-        Some(span) => {
-            let next = put(out, at, 1);
-            put_span(out, next, span)
-        }
+        None => [0u8; 5].encode(out, at),
+        Some(span) => (1u8, span).encode(out, at),
     }
 }
 
-fn mode_number(mode: Mode) -> u8
-    ensures { result ≡ mode_number mode }
-{
-    mode as u8
-}
-
+#[tactic(auto, unfolding(crate::specs::Packed::form_bytes, definitions::specs::States::root_number))]
 fn put_form(form: Form, out: &mut [u8], at: usize) -> usize
     ensures { Wrote out.old out.new at result (form_bytes form) }
 {
-    let next = put(out, at, pragma_root_number(form.root));
-    put_u64(form.tail, out, next)
+    (form.root as u8, form.tail as u64).encode(out, at)
 }
 
 // What a thing is (0 named, 1 required, 2 the file name), its source and its name: zeros for what it has not.
@@ -74,29 +55,30 @@ fn import_numbers(import: Import) -> (u8, u8, u8)
     }
 }
 
+#[tactic(auto, unfolding(crate::specs::Packed::record_bytes))]
 fn put_record(bound: Record, out: &mut [u8], at: usize) -> usize
     ensures { Wrote out.old out.new at result (record_bytes bound) }
 {
     let (kind, source, name) = import_numbers(bound.import);
-    let next = put_two(out, at, kind, source);
-    put_two(out, next, name, bound.binding)
+    [kind, source, name, bound.binding].encode(out, at)
 }
 
+#[tactic(auto, unfolding(crate::specs::Packed::records_bytes))]
 fn put_records(records: &[Record], out: &mut [u8], at: usize) -> usize
-    requires { at ≤ 2 ^ 63 }
     ensures { Wrote out.old out.new at result (records_bytes records.now) }
 {
-    let mut end = at;
-    for record in records {
-        end = put_record(*record, out, end);
+    let mut end = ().encode(out, at);
+    for bound in records {
+        end = put_record(*bound, out, end);
     }
     end
 }
 
+#[tactic(auto, using(tape::proofs::Targets::wrote_then), unfolding(crate::specs::Packed::options_bytes, crate::specs::Packed::optional_bytes))]
 fn put_options(options: Options, out: &mut [u8]) -> usize
     ensures { Wrote out.old out.new 0 result (options_bytes options) }
 {
-    let a = put(out, 0, flags_byte(options.flags));
+    let a = flags_byte(options.flags).encode(out, 0);
     let b = put_optional(options.pragma, out, a);
     let c = put_optional(options.pragma_frag, out, b);
     let d = put_optional(options.import_source, out, c);
@@ -109,7 +91,7 @@ pub fn put_settings(settings: Settings, out: &mut [u8]) -> usize
     ensures { Wrote out.old out.new 0 result (settings_bytes settings) }
 {
     let a = put_options(settings.options, out);
-    let b = put_two(out, a, u8::from(settings.pure), mode_number(settings.mode));
+    let b = [u8::from(settings.pure), settings.mode as u8].encode(out, a);
     let c = put_form(settings.pragma, out, b);
     put_form(settings.pragma_frag, out, c)
 }
@@ -119,12 +101,13 @@ fn put_state(state: State, out: &mut [u8]) -> usize
 {
     let a = put_settings(state.settings, out);
     let b = put_records(&state.records, out, a);
-    let c = put_u64(state.count, out, b);
-    let d = put_u64(state.calls, out, c);
-    put_u64(state.notices, out, d)
+    let c = (state.count as u64).encode(out, b);
+    let d = (state.calls as u64).encode(out, c);
+    (state.notices as u64).encode(out, d)
 }
 
 // The state's bytes at the front of the target; a target that has no room for them stays as it is.
+#[tactic(auto, unfolding(crate::specs::Packed::packed_answer, crate::specs::Packed::packed_target))]
 pub fn pack(state: State, out: &mut [u8]) -> Result<usize, Refusal>
     ensures value { result ≡ packed_answer (length out.old) }
     ensures out_after { out.new ≡ packed_target state out.old }

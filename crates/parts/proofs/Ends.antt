@@ -7,9 +7,9 @@ use Rattle.std.specs.Prelude.{Result, Ok, Err, cond, ltb, Bool}
 use mathlib.Core.Path.{◌≡◌, refl, ap}
 use mathlib.Core.Bool.{true, false}
 use mathlib.Core.List.{List, [], ◌∷◌}
-use Prim.Native.Nat.{ℕ, ◌≤◌, ◌<◌}
+use Prim.Native.Nat.{ℕ, ◌≤◌}
 use native.Mathlib.Omega.{arith}
-use lib.ListN.{length, get_or}
+use lib.ListN.{length}
 use lib.Dec.{eqb}
 use borrow.Author.Tests.{eqb-true}
 use Rattle.commands.specs.declared.error.CommandError.{CommandError}
@@ -23,23 +23,23 @@ use Rattle.parts.specs.Promises.{starts_with}
 -- one byte is there at the least
 pub some_there : (code : ℕ) (t : List ℕ) → starts_with code t ≡ true → 1 ≤ length t
 unfolding starts_with
-some_there code [] h = let z : ◌≡◌ {A = ℕ} 0 1 = cc in absurd (omega arith)
+some_there code [] h = cc
 some_there code (b ∷ t) h = omega arith
 
 pub attributes_over : (t : List ℕ) → starts_with 0x1e t ≡ true → attribute_command t ≡ Ok attributes.End
 unfolding starts_with attribute_command
-attributes_over [] h = let z : ◌≡◌ {A = ℕ} 0 1 = cc in absurd (omega arith)
+attributes_over [] h = cc
 attributes_over (b ∷ t) h = ap (λ (n : ℕ). attribute_command (n ∷ t)) (eqb-true b 0x1e h)
 
 pub children_over : (t : List ℕ) → starts_with 0x1f t ≡ true → child_command t ≡ Ok children.End
 unfolding starts_with child_command
-children_over [] h = let z : ◌≡◌ {A = ℕ} 0 1 = cc in absurd (omega arith)
+children_over [] h = cc
 children_over (b ∷ t) h = ap (λ (n : ℕ). child_command (n ∷ t)) (eqb-true b 0x1f h)
 
 -- ---- the other way: no other command is an end
 
 unequal : {A : Type 0} {x : A} {e : CommandError} → Err e ≡ Ok x → ⊥
-unequal q = let z : ◌≡◌ {A = ℕ} 0 1 = cc in omega arith
+unequal q = cc
 
 pass : {A : Type 0} (b : Bool) {x y z : Result A CommandError} → (x ≡ y → ⊥) → cond b x z ≡ y → z ≡ y
 pass true not_so e = absurd (not_so e)
@@ -61,22 +61,22 @@ pub over_attributes : (t : List ℕ) → attribute_command t ≡ Ok attributes.E
 unfolding starts_with attribute_command
 over_attributes [] e = absurd (unequal e)
 over_attributes (b ∷ t) e =
-    let plain = pass (eqb b 0x30) (other 4 t (λ q. let z : ◌≡◌ {A = ℕ} 0 1 = cc in omega arith)) e in
-    let namespaced = pass (eqb b 0x31) (other 8 t (λ q. let z : ◌≡◌ {A = ℕ} 0 1 = cc in omega arith)) plain in
-    let spread = pass (eqb b 0x32) (other 2 t (λ q. let z : ◌≡◌ {A = ℕ} 0 1 = cc in omega arith)) namespaced in
-    let literal = pass (eqb b 0x33) (other 2 t (λ q. let z : ◌≡◌ {A = ℕ} 0 1 = cc in omega arith)) spread in
+    let plain = pass (eqb b 0x30) (other 4 t (λ q. cc)) e in
+    let namespaced = pass (eqb b 0x31) (other 8 t (λ q. cc)) plain in
+    let spread = pass (eqb b 0x32) (other 2 t (λ q. cc)) namespaced in
+    let literal = pass (eqb b 0x33) (other 2 t (λ q. cc)) spread in
     tested (eqb b 0x1e) _ _ literal
 
 pub over_children : (t : List ℕ) → child_command t ≡ Ok children.End → starts_with 0x1f t ≡ true
 unfolding starts_with child_command
 over_children [] e = absurd (unequal e)
 over_children (b ∷ t) e =
-    let text = pass (eqb b 0x50) (other 4 t (λ q. let z : ◌≡◌ {A = ℕ} 0 1 = cc in omega arith)) e in
-    let expression = pass (eqb b 0x42) (other 2 t (λ q. let z : ◌≡◌ {A = ℕ} 0 1 = cc in omega arith)) text in
-    let empty = pass (eqb b 0x43) (λ q. let z : ◌≡◌ {A = ℕ} 0 1 = cc in omega arith) expression in
-    let spread = pass (eqb b 0x51) (other 2 t (λ q. let z : ◌≡◌ {A = ℕ} 0 1 = cc in omega arith)) empty in
-    let element = pass (eqb b 0x10) (other 8 t (λ q. let z : ◌≡◌ {A = ℕ} 0 1 = cc in omega arith)) spread in
-    let fragment = pass (eqb b 0x11) (other 8 t (λ q. let z : ◌≡◌ {A = ℕ} 0 1 = cc in omega arith)) element in
+    let text = pass (eqb b 0x50) (other 4 t (λ q. cc)) e in
+    let expression = pass (eqb b 0x42) (other 2 t (λ q. cc)) text in
+    let empty = pass (eqb b 0x43) (λ q. cc) expression in
+    let spread = pass (eqb b 0x51) (other 2 t (λ q. cc)) empty in
+    let element = pass (eqb b 0x10) (other 8 t (λ q. cc)) spread in
+    let fragment = pass (eqb b 0x11) (other 8 t (λ q. cc)) element in
     tested (eqb b 0x1f) _ _ fragment
 
 -- ---- nothing at all

@@ -1,7 +1,7 @@
 -- What stands at the front of a tape that reads: values, names, attributes, by their commands.
 -- Assumes nothing.
 use Rattle.std.specs.Prelude.{Option, None, Some, Ok, Err}
-use mathlib.Core.Path.{◌≡◌, refl, sym, ap, subst, ◌∙◌}
+use mathlib.Core.Path.{◌≡◌, refl, sym, ap, ◌∙◌}
 use mathlib.Core.Bool.{Bool, true, false, cond, ◌||◌, ◌&&◌}
 use mathlib.Core.List.{List, [], ◌∷◌}
 use Prim.Native.Nat.{ℕ, zero, suc, ◌+◌, ◌-◌, ◌≤◌, ◌<◌}
@@ -10,11 +10,11 @@ use lib.ListN.{length, take, drop, length-drop}
 use Rattle.text.specs.declared.spans.Span.{Span}
 use Rattle.text.specs.Spans.{bounds_of}
 use Rattle.commands.specs.declared.error.CommandError.{CommandError}
-use Rattle.commands.specs.declared.root.Place.{Place}
 use Rattle.commands.specs.declared.root.NameCommand.TheVariants as names
-use Rattle.text.proofs.Lists.{tail_part}
 use Rattle.commands.specs.declared.root.AttributeCommand.TheVariants as attributes
+use Rattle.commands.specs.declared.root.PropertyCommand.{PropertyCommand}
 use Rattle.commands.specs.declared.root.PropertyCommand.TheVariants as properties
+use Rattle.commands.specs.declared.root.ValueCommand.{ValueCommand}
 use Rattle.commands.specs.declared.root.ValueCommand.TheVariants as values
 use Rattle.commands.specs.Root.{name_command, member_command, attribute_command, property_command, value_command}
 use Rattle.definitions.specs.declared.call_tape.WithExpression.TheVariants as with_expression
@@ -25,7 +25,8 @@ use Rattle.definitions.specs.Lowering.{Context, put_over, has_value, is_key, key
 use Rattle.parts.specs.declared.jsx_impl.Front.{Front}
 use Rattle.parts.specs.declared.jsx_impl.Front.TheVariants as front
 use Rattle.parts.specs.Promises.{some_output, Onward, FrontIs}
-use Rattle.parts.proofs.Inversions.{never, from_done, named_done, spanned_done, map_done, Within, attributes_end, attributes_plain, attributes_namespaced, attributes_spread, attributes_literal, value_absent, value_empty, value_expression, value_text, value_element, value_fragment}
+use Rattle.emit.proofs.Readings.{named_done}
+use Rattle.parts.proofs.Inversions.{never, from_done, spanned_done, map_done, Within, attributes_end, attributes_plain, attributes_namespaced, attributes_spread, attributes_literal, value_absent, value_empty, value_expression, value_text, value_element, value_fragment, passing}
 
 -- ---- whether a value is there
 
@@ -34,25 +35,15 @@ module _ (f : ℕ) (text t : List ℕ) (d : ℕ) (v : Value) (u : ℕ) (e : valu
   unfolding has_value
   absent_value c = sym (ap has_value (value_absent text t d f c e).0)
 
-  pub text_value : (s : Span) → value_command t ≡ Ok (values.Text s) → true ≡ has_value v
+  -- a command other than that of none
+  pub there_value : (x : ValueCommand) → value_command t ≡ Ok x → (x ≡ values.Absent → ⊥) → true ≡ has_value v
   unfolding has_value
-  text_value s c = sym (ap has_value (value_text text t d f s c e).0)
-
-  pub expression_value : (x : ℕ) → value_command t ≡ Ok (values.Expression x) → true ≡ has_value v
-  unfolding has_value
-  expression_value x c = sym (ap has_value (value_expression text t d f x c e).0)
-
-  pub empty_value : value_command t ≡ Ok values.Empty → true ≡ has_value v
-  unfolding has_value
-  empty_value c = sym (ap has_value (value_empty text t d f c e).0)
-
-  pub element_value : (p : Place) → value_command t ≡ Ok (values.Element p) → true ≡ has_value v
-  unfolding has_value
-  element_value p c = sym (ap has_value (value_element text t d f p c e).1)
-
-  pub fragment_value : (p : Place) → value_command t ≡ Ok (values.Fragment p) → true ≡ has_value v
-  unfolding has_value
-  fragment_value p c = sym (ap has_value (value_fragment text t d f p c e).1)
+  there_value values.Absent c n = absurd (n refl)
+  there_value (values.Text s) c n = sym (ap has_value (value_text text t d f s c e).0)
+  there_value (values.Expression x) c n = sym (ap has_value (value_expression text t d f x c e).0)
+  there_value values.Empty c n = sym (ap has_value (value_empty text t d f c e).0)
+  there_value (values.Element p) c n = sym (ap has_value (value_element text t d f p c e).1)
+  there_value (values.Fragment p) c n = sym (ap has_value (value_fragment text t d f p c e).1)
 
 -- ---- names
 
@@ -155,25 +146,20 @@ module _ (f : ℕ) (text t : List ℕ) (c : Context) (x : ℕ) (ps : List Proper
       go zero e = never e
       go (suc f) e = let h : done [] 1 ≡ done ps u = rw k at e in let q : [] ≡ ps = cc in rw (← q) refl
 
-  pub unnamed_property : (y : ℕ) → property_command t ≡ Ok (properties.Property y) → true ≡ some_output (lower_literal c x ps)
+  -- a command other than their end
+  pub some_property : (y : PropertyCommand) → property_command t ≡ Ok y → (y ≡ properties.End → ⊥) → true ≡ some_output (lower_literal c x ps)
   unfolding properties_at properties_by
-  unnamed_property y k = go f e
+  some_property y k n = go f y k n e
     where
-      go : (f : ℕ) → properties_at f text t ≡ done ps u → true ≡ some_output (lower_literal c x ps)
-      go zero e = never e
-      go (suc f) e =
+      go : (f : ℕ) (y : PropertyCommand) → property_command t ≡ Ok y → (y ≡ properties.End → ⊥) → properties_at f text t ≡ done ps u → true ≡ some_output (lower_literal c x ps)
+      go zero y k n e = never e
+      go (suc f) (properties.Property y) k n e =
           let m = map_done (unnamed y ∷◌) (from 3 (properties_at f text (drop 3 t))) (rw k at e) in
           rw m.2 (some_literal c x (unnamed y) m.0)
-
-  pub named_property : (y : ℕ) (s : Span) → property_command t ≡ Ok (properties.Named y s) → true ≡ some_output (lower_literal c x ps)
-  unfolding properties_at properties_by
-  named_property y s k = go f e
-    where
-      go : (f : ℕ) → properties_at f text t ≡ done ps u → true ≡ some_output (lower_literal c x ps)
-      go zero e = never e
-      go (suc f) e =
+      go (suc f) (properties.Named y s) k n e =
           let m = map_done (prop_name y s ∷◌) (from 7 (properties_at f text (drop 7 t))) (spanned_done (bounds_of text s) _ (rw k at e)).0 in
           rw m.2 (some_literal c x (prop_name y s) m.0)
+      go (suc f) properties.End k n e = absurd (n refl)
 
   pub error_property : {z : CommandError} → property_command t ≡ Err z → ⊥
   unfolding properties_at properties_by
@@ -220,7 +206,10 @@ module _ (c : Context) (text t : List ℕ) (seen : Bool) (f d : ℕ) (a : Attrib
 
   -- what a skip of the value behind m bytes says
   abbrev pub Skips : (m took : ℕ) → Type 0
-  Skips m took = (h : ℕ) (v : Value) (w : ℕ) → length (drop m t) < h → value_at h text d (drop m t) ≡ done v w → took ≡ w
+  Skips m took = (h : ℕ) (v : Value) (w : ℕ) → length (take (length t - m) (drop m t)) < h → value_at h text d (take (length t - m) (drop m t)) ≡ done v w → took ≡ w
+
+  skipped : (m took : ℕ) → Skips m took → (h : ℕ) (v : Value) (w : ℕ) → length (drop m t) < h → value_at h text d (drop m t) ≡ done v w → took ≡ w
+  skipped m took = passing (λ h l. value_at h text d l) (λ v w. took ≡ w) t m
 
   pub front_plain : (s : Span) → attribute_command t ≡ Ok (attributes.Plain s) → length t < f → 5 ≤ length t → (seen && is_key c s) ≡ false → (took : ℕ) → Skips 5 took
       → FrontIs c text d t seen f a u (Some (front.Other (5 + took)))
@@ -228,7 +217,7 @@ module _ (c : Context) (text t : List ℕ) (seen : Bool) (f d : ℕ) (a : Attrib
   front_plain s k enough five hn took S =
       let W = attributes_plain text t d f s k e in (
         W.rest,
-        behind 5 (5 + took) took W (S W.fuel W.part W.took (omega (arith, W.turns, length-drop 5 t)) W.part_reads) refl,
+        behind 5 (5 + took) took W (skipped 5 took S W.fuel W.part W.took (omega (arith, W.turns, length-drop 5 t)) W.part_reads) refl,
         ap (λ (b : Attributes). key_after_spread c seen b) W.is ∙ ap (λ (b : Bool). b || key_after_spread c seen W.rest) hn,
       )
 
@@ -238,18 +227,18 @@ module _ (c : Context) (text t : List ℕ) (seen : Bool) (f d : ℕ) (a : Attrib
   front_namespaced s r k enough nine took S =
       let W = attributes_namespaced text t d f s r k e in (
         W.rest,
-        behind 9 (9 + took) took W (S W.fuel W.part W.took (omega (arith, W.turns, length-drop 9 t)) W.part_reads) refl,
+        behind 9 (9 + took) took W (skipped 9 took S W.fuel W.part W.took (omega (arith, W.turns, length-drop 9 t)) W.part_reads) refl,
         ap (λ (b : Attributes). key_after_spread c seen b) W.is,
       )
 
   pub front_literal : (x : ℕ) → attribute_command t ≡ Ok (attributes.Literal x) → length t < f → 3 ≤ length t → (took : ℕ)
-      → ((h : ℕ) (ps : List Property) (w : ℕ) → length (drop 3 t) < h → properties_at h text (drop 3 t) ≡ done ps w → took ≡ w)
+      → ((h : ℕ) (ps : List Property) (w : ℕ) → length (take (length t - 3) (drop 3 t)) < h → properties_at h text (take (length t - 3) (drop 3 t)) ≡ done ps w → took ≡ w)
       → FrontIs c text d t seen f a u (Some (front.Spread (3 + took)))
   unfolding FrontIs key_after_spread
   front_literal x k enough three took S =
       let W = attributes_literal text t d f x k e in (
         W.rest,
-        behind 3 (3 + took) took W (S W.fuel W.part W.took (omega (arith, W.turns, length-drop 3 t)) W.part_reads) refl,
+        behind 3 (3 + took) took W (passing (λ h l. properties_at h text l) (λ ps w. took ≡ w) t 3 S W.fuel W.part W.took (omega (arith, W.turns, length-drop 3 t)) W.part_reads) refl,
         ap (λ (b : Attributes). key_after_spread c seen b) W.is,
       )
 
@@ -299,17 +288,3 @@ module _ {c : Context} {text : List ℕ} {d : ℕ} {a : Attributes} {t : List �
   pub keys_other : {t' : List ℕ} (n : ℕ) → 1 ≤ n → n ≤ length t → t' ≡ drop n t → Told (Some (front.Other n)) → KeysLeft c text d a t' seen
   unfolding FrontIs
   keys_other n pos inside here T = let F = fronted (Some (front.Other n)) T in on n F.0 seen pos inside here F.1 F.2
-
--- ---- what a skip of a part says of the tape behind n bytes
-
-pub passing : (t : List ℕ) (n : ℕ) (text : List ℕ) (d : ℕ) {took : ℕ}
-    → ((h : ℕ) (v : Value) (w : ℕ) → length (take (length t - n) (drop n t)) < h → value_at h text d (take (length t - n) (drop n t)) ≡ done v w → took ≡ w)
-    → (h : ℕ) (v : Value) (w : ℕ) → length (drop n t) < h → value_at h text d (drop n t) ≡ done v w → took ≡ w
-passing t n text d {took} =
-    subst (λ (l : List ℕ). (h : ℕ) (v : Value) (w : ℕ) → length l < h → value_at h text d l ≡ done v w → took ≡ w) (tail_part t n)
-
-pub passing_properties : (t : List ℕ) (n : ℕ) (text : List ℕ) {took : ℕ}
-    → ((h : ℕ) (v : List Property) (w : ℕ) → length (take (length t - n) (drop n t)) < h → properties_at h text (take (length t - n) (drop n t)) ≡ done v w → took ≡ w)
-    → (h : ℕ) (v : List Property) (w : ℕ) → length (drop n t) < h → properties_at h text (drop n t) ≡ done v w → took ≡ w
-passing_properties t n text {took} =
-    subst (λ (l : List ℕ). (h : ℕ) (v : List Property) (w : ℕ) → length l < h → properties_at h text l ≡ done v w → took ≡ w) (tail_part t n)

@@ -2,18 +2,18 @@
 -- `turns`: the parts are read with one turn less.
 -- Assumes nothing.
 use Rattle.std.specs.Prelude.{Ok, Err}
-use mathlib.Core.Path.{◌≡◌, refl, sym, ap, ◌∙◌}
+use mathlib.Core.Path.{◌≡◌, refl, sym, ap, subst, ◌∙◌}
 use mathlib.Core.Bool.{Bool, true, false, cond, ◌||◌}
 use mathlib.Core.List.{List}
-use Prim.Native.Nat.{ℕ, zero, suc, ◌+◌}
-use native.Mathlib.Omega.{arith}
-use lib.ListN.{drop}
+use Prim.Native.Nat.{ℕ, zero, suc, ◌+◌, ◌-◌, ◌<◌}
+use lib.ListN.{length, take, drop}
 use lib.Dec.{eqb, leb}
 use borrow.Author.Tests.{eq-eqb}
 use Rattle.text.specs.declared.spans.Span.{Span}
 use Rattle.text.specs.declared.spans.Bounds.{Bounds}
 use Rattle.text.specs.declared.spans.Bounds.TheVariants.{Outside, Cuts, Empty, Good}
 use Rattle.text.specs.Spans.{part_of, bounds_of}
+use Rattle.text.proofs.Lists.{tail_part}
 use Rattle.references.specs.References.{has_reference}
 use Rattle.tape.specs.declared.refusal.Fault.{Fault}
 use Rattle.tape.specs.declared.refusal.Fault.TheVariants as fault
@@ -22,14 +22,15 @@ use Rattle.commands.specs.declared.root.Place.{Place}
 use Rattle.commands.specs.declared.root.AttributeCommand.TheVariants as attributes
 use Rattle.commands.specs.declared.root.ValueCommand.TheVariants as values
 use Rattle.commands.specs.Root.{attribute_command, value_command}
-use Rattle.definitions.specs.Judging.{Parsed, done, stop, ◌then◌, map, from, spanned, named, worse}
+use Rattle.definitions.specs.Judging.{Parsed, done, stop, ◌then◌, map, from, spanned, worse}
 use Rattle.definitions.specs.Tree.{Property, Node, Attributes, no_attributes, attribute, namespaced_attribute, spread, literal, Value, absent, string, expression, empty, node_value}
 use Rattle.definitions.specs.Reading.{lettered, opened, attributes_by, value_by, properties_at, element_at, fragment_at, attributes_at, value_at}
+use Rattle.emit.proofs.Readings.{named_done}
 
 -- ---- how readings are put together, backwards
 
 pub never : {A B : Type 0} {x : Fault} {q : ℕ} {a : A} {u : ℕ} → stop x q ≡ done a u → B
-never e = let z : ◌≡◌ {A = ℕ} 0 1 = cc in absurd (omega arith)
+never e = cc
 
 module _ {A : Type 0} where
   pub from_done : (i : ℕ) (p : Parsed A) {a : A} {v : ℕ} → from i p ≡ done a v → (w : ℕ) × (p ≡ done a w) × (v ≡ i + w)
@@ -37,19 +38,12 @@ module _ {A : Type 0} where
   from_done i (done b w) e = (w, cc, cc)
   from_done i (stop n q) e = never e
 
-  pub named_done : (b : Bounds) (p : Parsed A) {a : A} {u : ℕ} → named b p ≡ done a u → p ≡ done a u
-  unfolding named
-  named_done Outside p e = never e
-  named_done Cuts p e = never e
-  named_done Empty p e = never e
-  named_done Good p e = e
-
   pub spanned_done : (b : Bounds) (p : Parsed A) {a : A} {u : ℕ} → spanned b p ≡ done a u → (p ≡ done a u) × (b ≡ Outside → ⊥) × (b ≡ Cuts → ⊥)
   unfolding spanned
   spanned_done Outside p e = never e
   spanned_done Cuts p e = never e
-  spanned_done Empty p e = (e, λ h. let z : ◌≡◌ {A = ℕ} 0 1 = cc in omega arith, λ h. let z : ◌≡◌ {A = ℕ} 0 1 = cc in omega arith)
-  spanned_done Good p e = (e, λ h. let z : ◌≡◌ {A = ℕ} 0 1 = cc in omega arith, λ h. let z : ◌≡◌ {A = ℕ} 0 1 = cc in omega arith)
+  spanned_done Empty p e = (e, λ h. cc, λ h. cc)
+  spanned_done Good p e = (e, λ h. cc, λ h. cc)
 
 module _ {A : Type 0} where
   pub lettered_done : (text : List ℕ) (s : Span) (p : Parsed A) {a : A} {u : ℕ} → lettered text s p ≡ done a u
@@ -69,7 +63,7 @@ module _ {A : Type 0} where
   opened_done d at p {a} {u} e = deep (leb 64 d) e
     where
       no : false ≡ true → ⊥
-      no h = let z : ◌≡◌ {A = ℕ} 0 1 = cc in omega arith
+      no h = cc
 
       line : (b c : Bool) → eqb at.line 4294967295 ≡ b → eqb at.column 4294967295 ≡ c
           → cond (b || c) (stop fault.Position 0) (from 9 p) ≡ done a u
@@ -261,3 +255,10 @@ module _ (text t : List ℕ) (d : ℕ) where
       let m = map_done node_value (opened d p (fragment_at f text d p (drop 9 t))) (rw c at e) in
       let o = opened_done d p (fragment_at f text d p (drop 9 t)) m.1 in
       (m.0, m.2, record { fuel = f; turns = refl; took = o.0; reads = o.1; used = o.2; line = o.3; column = o.4 })
+
+-- ---- what is told of `&t[n..]` is told of t behind n bytes
+
+pub passing : {A : Type 0} (read : ℕ → List ℕ → Parsed A) (Q : A → ℕ → Type 0) (t : List ℕ) (n : ℕ)
+    → ((h : ℕ) (x : A) (u : ℕ) → length (take (length t - n) (drop n t)) < h → read h (take (length t - n) (drop n t)) ≡ done x u → Q x u)
+    → (h : ℕ) (x : A) (u : ℕ) → length (drop n t) < h → read h (drop n t) ≡ done x u → Q x u
+passing {A} read Q t n = subst (λ (l : List ℕ). (h : ℕ) (x : A) (u : ℕ) → length l < h → read h l ≡ done x u → Q x u) (tail_part t n)

@@ -1,5 +1,5 @@
 pub mod Inversions
-pub mod Noticing
+pub mod Texts
 pub mod Fronts
 pub mod Spreading
 pub mod Ends

@@ -1,14 +1,12 @@
 -- A classic call's lone spread, and whether it has a property at all.
 -- Assumes nothing.
 use Rattle.std.specs.Prelude.{Option, None, Some, Result, Ok, Err}
-use mathlib.Core.Path.{◌≡◌, refl, sym, ap, subst, ◌∙◌}
+use mathlib.Core.Path.{◌≡◌, refl, sym, ap, ◌∙◌}
 use mathlib.Core.Bool.{Bool, true, false, cond, not, ◌||◌, ◌&&◌}
 use mathlib.Core.List.{List, [], ◌∷◌, ◌++◌}
 use Prim.Native.Nat.{ℕ, ◌+◌, ◌-◌, ◌≤◌, ◌<◌}
 use native.Mathlib.Omega.{arith}
 use lib.ListN.{length, take, drop, length-drop}
-use Rattle.text.specs.declared.spans.Span.{Span}
-use Rattle.text.proofs.Lists.{tail_part}
 use Rattle.commands.specs.declared.error.CommandError.{CommandError}
 use Rattle.commands.specs.declared.root.Place.{Place}
 use Rattle.commands.specs.declared.root.AttributeCommand.{AttributeCommand}
@@ -24,7 +22,7 @@ use Rattle.definitions.specs.Reading.{properties_at, attributes_at}
 use Rattle.definitions.specs.Lowering.{Context, Output, emit, put, put_over, has_proto, plugins_off, is_last, lone_spread_or, self_output, source_output}
 use Rattle.emit.specs.declared.used.Used.{Used}
 use Rattle.parts.specs.Promises.{some_output, SoleAt, Alone, LoneWithin}
-use Rattle.parts.proofs.Inversions.{attributes_end, attributes_error, attributes_plain, attributes_namespaced, attributes_spread, attributes_literal}
+use Rattle.parts.proofs.Inversions.{attributes_end, attributes_error, attributes_plain, attributes_namespaced, attributes_spread, attributes_literal, passing}
 
 -- ---- whether the attributes end n bytes behind the front
 
@@ -36,21 +34,14 @@ module _ (t q : List ℕ) (x n : ℕ) (here : q ≡ drop n t) where
   unfolding Alone
   alone_end k h = (refl, refl, h, λ f d text a u e. attributes_end text (drop n t) d f (at k) e)
 
-  pub alone_plain : (s : Span) → attribute_command q ≡ Ok (attributes.Plain s) → Alone t x n None
+  -- a command other than their end
+  pub alone_other : (y : AttributeCommand) → attribute_command q ≡ Ok y → (y ≡ attributes.End → ⊥) → Alone t x n None
   unfolding Alone is_last
-  alone_plain s k f d text a u e = rw (attributes_plain text (drop n t) d f s (at k) e).is refl
-
-  pub alone_namespaced : (s r : Span) → attribute_command q ≡ Ok (attributes.Namespaced s r) → Alone t x n None
-  unfolding Alone is_last
-  alone_namespaced s r k f d text a u e = rw (attributes_namespaced text (drop n t) d f s r (at k) e).is refl
-
-  pub alone_spread : (y : ℕ) → attribute_command q ≡ Ok (attributes.Spread y) → Alone t x n None
-  unfolding Alone is_last
-  alone_spread y k f d text a u e = rw (attributes_spread text (drop n t) d f y (at k) e).is refl
-
-  pub alone_literal : (y : ℕ) → attribute_command q ≡ Ok (attributes.Literal y) → Alone t x n None
-  unfolding Alone is_last
-  alone_literal y k f d text a u e = rw (attributes_literal text (drop n t) d f y (at k) e).is refl
+  alone_other (attributes.Plain s) k not_end f d text a u e = rw (attributes_plain text (drop n t) d f s (at k) e).is refl
+  alone_other (attributes.Namespaced s r) k not_end f d text a u e = rw (attributes_namespaced text (drop n t) d f s r (at k) e).is refl
+  alone_other (attributes.Spread y) k not_end f d text a u e = rw (attributes_spread text (drop n t) d f y (at k) e).is refl
+  alone_other (attributes.Literal y) k not_end f d text a u e = rw (attributes_literal text (drop n t) d f y (at k) e).is refl
+  alone_other attributes.End k not_end f d text a u e = absurd (not_end refl)
 
   pub alone_error : {y : CommandError} → attribute_command q ≡ Err y → Alone t x n None
   unfolding Alone
@@ -97,17 +88,14 @@ unfolding SoleAt
 lone_on c a u h = no_spread c a h
 
 module _ (c : Context) (text t : List ℕ) (f d : ℕ) (a : Attributes) (u : ℕ) (e : attributes_at f text d t ≡ done a u) where
-  pub lone_plain : (s : Span) → attribute_command t ≡ Ok (attributes.Plain s) → SoleAt c a u None
+  -- a command other than those of spreads
+  pub lone_other : (x : AttributeCommand) → attribute_command t ≡ Ok x → ((y : ℕ) → x ≡ attributes.Spread y → ⊥) → ((y : ℕ) → x ≡ attributes.Literal y → ⊥) → SoleAt c a u None
   unfolding SoleAt lone_spread_or
-  lone_plain s k = λ object. ap (λ (b : Attributes). lone_spread_or c b object) (attributes_plain text t d f s k e).is
-
-  pub lone_namespaced : (s r : Span) → attribute_command t ≡ Ok (attributes.Namespaced s r) → SoleAt c a u None
-  unfolding SoleAt lone_spread_or
-  lone_namespaced s r k = λ object. ap (λ (b : Attributes). lone_spread_or c b object) (attributes_namespaced text t d f s r k e).is
-
-  pub lone_end : attribute_command t ≡ Ok attributes.End → SoleAt c a u None
-  unfolding SoleAt lone_spread_or
-  lone_end k = λ object. ap (λ (b : Attributes). lone_spread_or c b object) (attributes_end text t d f k e).0
+  lone_other (attributes.Plain s) k spreads literals = λ object. ap (λ (b : Attributes). lone_spread_or c b object) (attributes_plain text t d f s k e).is
+  lone_other (attributes.Namespaced s r) k spreads literals = λ object. ap (λ (b : Attributes). lone_spread_or c b object) (attributes_namespaced text t d f s r k e).is
+  lone_other (attributes.Spread y) k spreads literals = absurd (spreads y refl)
+  lone_other (attributes.Literal y) k spreads literals = absurd (literals y refl)
+  lone_other attributes.End k spreads literals = λ object. ap (λ (b : Attributes). lone_spread_or c b object) (attributes_end text t d f k e).0
 
   pub lone_error : {x : CommandError} → attribute_command t ≡ Err x → SoleAt c a u None
   lone_error k = absurd (attributes_error text t d f k e)
@@ -129,13 +117,17 @@ module _ (c : Context) (text t : List ℕ) (f d : ℕ) (a : Attributes) (u : ℕ
       ap (λ (b : Attributes). lone_spread_or c b object) W.is
       ∙ refused (is_last W.rest) (plugins_off c) (put_over with_expression.SoleSpread x) object (A W.fuel d text W.rest W.size W.reads)
 
+  -- what is told of the properties behind the command
+  abbrev pub ToldProto : (took : ℕ) (proto : Bool) → Type 0
+  ToldProto took proto = (h : ℕ) (ps : List Property) (w : ℕ) → length (take (length t - 3) (drop 3 t)) < h → properties_at h text (take (length t - 3) (drop 3 t)) ≡ done ps w → (proto ≡ has_proto c ps) × (took ≡ w)
+
   pub lone_literal : (x : ℕ) (r : Option (Used ℕ)) (took : ℕ) (proto : Bool) → attribute_command t ≡ Ok (attributes.Literal x) → plugins_off c ≡ true
-      → ((h : ℕ) (ps : List Property) (w : ℕ) → length (drop 3 t) < h → properties_at h text (drop 3 t) ≡ done ps w → (proto ≡ has_proto c ps) × (took ≡ w))
+      → ToldProto took proto
       → length t < f → 3 ≤ length t → proto ≡ false → Alone t x (3 + took) r → SoleAt c a u r
   unfolding SoleAt lone_spread_or Alone is_last
   lone_literal x (Some s) took proto k off P enough three hn A =
       let W = attributes_literal text t d f x k e in
-      let Q = P W.fuel W.part W.took (omega (arith, W.turns, length-drop 3 t)) W.part_reads in
+      let Q = passing (λ h l. properties_at h text l) (λ ps w. (proto ≡ has_proto c ps) × (took ≡ w)) t 3 P W.fuel W.part W.took (omega (arith, W.turns, length-drop 3 t)) W.part_reads in
       let B = A.3 W.fuel d text W.rest W.size (ap (λ (q : ℕ). attributes_at W.fuel text d (drop (3 + q) t)) Q.1 ∙ W.reads) in
       let z : has_proto c W.part ≡ false = sym Q.0 ∙ hn in (
         omega (arith, W.used, A.1, B.1, Q.1),
@@ -147,18 +139,18 @@ module _ (c : Context) (text t : List ℕ) (f d : ℕ) (a : Attributes) (u : ℕ
       )
   lone_literal x None took proto k off P enough three hn A = λ object.
       let W = attributes_literal text t d f x k e in
-      let Q = P W.fuel W.part W.took (omega (arith, W.turns, length-drop 3 t)) W.part_reads in
+      let Q = passing (λ h l. properties_at h text l) (λ ps w. (proto ≡ has_proto c ps) × (took ≡ w)) t 3 P W.fuel W.part W.took (omega (arith, W.turns, length-drop 3 t)) W.part_reads in
       ap (λ (b : Attributes). lone_spread_or c b object) W.is
       ∙ refused₂ (is_last W.rest) (plugins_off c) (has_proto c W.part) (put_over with_expression.SoleSpread x) object
       (A W.fuel d text W.rest W.size (ap (λ (q : ℕ). attributes_at W.fuel text d (drop (3 + q) t)) Q.1 ∙ W.reads))
 
   pub lone_proto : (x took : ℕ) (proto : Bool) → attribute_command t ≡ Ok (attributes.Literal x)
-      → ((h : ℕ) (ps : List Property) (w : ℕ) → length (drop 3 t) < h → properties_at h text (drop 3 t) ≡ done ps w → (proto ≡ has_proto c ps) × (took ≡ w))
+      → ToldProto took proto
       → length t < f → 3 ≤ length t → proto ≡ true → SoleAt c a u None
   unfolding SoleAt lone_spread_or
   lone_proto x took proto k P enough three hy = λ object.
       let W = attributes_literal text t d f x k e in
-      let Q = P W.fuel W.part W.took (omega (arith, W.turns, length-drop 3 t)) W.part_reads in
+      let Q = passing (λ h l. properties_at h text l) (λ ps w. (proto ≡ has_proto c ps) × (took ≡ w)) t 3 P W.fuel W.part W.took (omega (arith, W.turns, length-drop 3 t)) W.part_reads in
       let z : has_proto c W.part ≡ true = sym Q.0 ∙ hy in
       ap (λ (b : Attributes). lone_spread_or c b object) W.is ∙ protoed (is_last W.rest) (plugins_off c) (has_proto c W.part) (put_over with_expression.SoleSpread x) object z
 
@@ -185,7 +177,7 @@ some_source c p = go c.settings.options.flags.source_plugin
     go true = refl
     go false = refl
 
-more : (c : Context) (p : Place) (os : List Output)
+pub more : (c : Context) (p : Place) (os : List Output)
     → some_output ((os ++ self_output c) ++ source_output c p)
     ≡ ((some_output os || (c.settings.options.flags.self_plugin && c.self_allowed)) || c.settings.options.flags.source_plugin)
 more c p os =
@@ -193,33 +185,6 @@ more c p os =
     ∙ ap (λ (b : Bool). b || some_output (source_output c p)) (some_append os (self_output c))
     ∙ ap (λ (b : Bool). (some_output os || b) || some_output (source_output c p)) (some_self c)
     ∙ ap (λ (b : Bool). (some_output os || (c.settings.options.flags.self_plugin && c.self_allowed)) || b) (some_source c p)
-
-third : (x y z : Bool) → z ≡ true → ((x || y) || z) ≡ true
-third true y z h = refl
-third false true z h = refl
-third false false z h = h
-
-second : (x y w z : Bool) → x ≡ false → z ≡ false → y ≡ true → ((x || (y && w)) || z) ≡ w
-second x y w z h i j = rw (h, i, j) (last w)
-  where
-    last : (b : Bool) → (b || false) ≡ b
-    last true = refl
-    last false = refl
-
-module _ (c : Context) (p : Place) (os : List Output) where
-  pub more_some : some_output os ≡ true → true ≡ some_output ((os ++ self_output c) ++ source_output c p)
-  more_some h = sym (more c p os ∙ rw h refl)
-
-  pub more_source : c.settings.options.flags.source_plugin ≡ true → true ≡ some_output ((os ++ self_output c) ++ source_output c p)
-  more_source h = sym (more c p os ∙ third (some_output os) (c.settings.options.flags.self_plugin && c.self_allowed) c.settings.options.flags.source_plugin h)
-
-  pub more_self : some_output os ≡ false → c.settings.options.flags.source_plugin ≡ false → c.settings.options.flags.self_plugin ≡ true
-      → c.self_allowed ≡ some_output ((os ++ self_output c) ++ source_output c p)
-  more_self h i j = sym (more c p os ∙ second (some_output os) c.settings.options.flags.self_plugin c.self_allowed c.settings.options.flags.source_plugin h i j)
-
-  pub more_none : some_output os ≡ false → c.settings.options.flags.source_plugin ≡ false → c.settings.options.flags.self_plugin ≡ false
-      → false ≡ some_output ((os ++ self_output c) ++ source_output c p)
-  more_none h i j = sym (more c p os ∙ rw (h, i, j) refl)
 
 -- ---- what the code tests
 
@@ -241,13 +206,3 @@ pub alone_within : (t : List ℕ) (x n : ℕ) (r : Option (Used ℕ)) → Alone 
 unfolding Alone
 alone_within t x n (Some s) A = omega (arith, A.1, A.2)
 alone_within t x n None A = tt
-
--- what is told of the properties behind n bytes
-pub proto_behind : (t : List ℕ) (n : ℕ) (text : List ℕ) (c : Context) {found : Bool} {took : ℕ}
-    → ((h : ℕ) (ps : List Property) (w : ℕ) → length (take (length t - n) (drop n t)) < h → properties_at h text (take (length t - n) (drop n t)) ≡ done ps w
-    → (found ≡ has_proto c ps) × (took ≡ w))
-    → (h : ℕ) (ps : List Property) (w : ℕ) → length (drop n t) < h → properties_at h text (drop n t) ≡ done ps w → (found ≡ has_proto c ps) × (took ≡ w)
-proto_behind t n text c {found} {took} =
-    subst
-    (λ (l : List ℕ). (h : ℕ) (ps : List Property) (w : ℕ) → length l < h → properties_at h text l ≡ done ps w → (found ≡ has_proto c ps) × (took ≡ w))
-    (tail_part t n)

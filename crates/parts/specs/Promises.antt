@@ -8,7 +8,7 @@ use Rattle.definitions.specs.Reading.{attributes_at}
 use Rattle.definitions.specs.JsxText.{jsx_text}
 use Rattle.definitions.specs.Lowering.{Context, Output, some_line, lower_text, key_after_spread, is_last, put_over, lone_spread_or}
 use Rattle.pen.specs.declared.pen.Pen.{Pen}
-use Rattle.pen.specs.Emitting.{Called}
+use Rattle.pen.specs.Emitting.{Produced}
 use Rattle.emit.specs.declared.used.Used.{Used}
 use Rattle.parts.specs.declared.jsx_impl.Items.{Items}
 use Rattle.parts.specs.declared.jsx_impl.Props.{Props}
@@ -37,15 +37,15 @@ pub record IsText (r : Items) : Type 0 where
   pub few : r.count ≤ 1
 
 -- a text child: its lines are written, and it counts if there is one
-pub record TextWritten (text : List ℕ) (s : Span) (cs cs' : List ℕ) (p : Pen) (r : Items) : Type 0 where
+pub record TextWritten (text : List ℕ) (s : Span) (p p' : Pen) (r : Items) : Type 0 where
   pub counted : r.count ≡ some_line (jsx_text text s)
-  pub wrote : Called (lower_text (jsx_text text s)) cs cs' p r.pen
+  pub wrote : Produced (lower_text (jsx_text text s)) p p'
 
 -- an object literal's properties
-pub record LiteralWritten (os : List Output) (u : ℕ) (cs cs' : List ℕ) (p : Pen) (r : Props) : Type 0 where
+pub record LiteralWritten (os : List Output) (u : ℕ) (p p' : Pen) (r : Props) : Type 0 where
   pub taken : r.used ≡ u
   pub flagged : r.some ≡ some_output os
-  pub wrote : Called os cs cs' p r.pen
+  pub wrote : Produced os p p'
 
 -- ---- a classic call's lone spread
 

@@ -1,5 +1,6 @@
 // The small parts of lowering (jsx_impl.rs): tests of names, values and attributes, keys behind spreads, lone spreads, text children. Of a tape that does not read
 // nothing is promised but that no more than the tape is used.
+// kept: what is given for a tape that does not read is no error: the tape was checked before, these functions can't fail, and an error would have no reader.
 ghost use Rattle.std.specs.Prelude.{◌≡◌, length, drop, true, false, ◌&&◌, List, ◌++◌, ℕ, ◌+◌, ◌≤◌, ◌<◌, ◌^◌, Option, Some, None, IfSome};
 ghost use Rattle.text.specs.declared.spans.Span as spans;
 ghost use Rattle.text.specs.Spans.{part_of};
@@ -11,7 +12,7 @@ ghost use Rattle.commands.specs.declared.root.Place as places;
 ghost use Rattle.definitions.specs.Tree.{Name, Property, Attributes, Value};
 ghost use Rattle.definitions.specs.Reading.{members_at, name_at, properties_at, attributes_at, value_at};
 ghost use Rattle.definitions.specs.Lowering.{Output, is_key, has_value, key_notice, key_after_spread, classic_element, form_of, lower_literal, self_output, source_output};
-ghost use Rattle.pen.specs.Emitting.{Noticed};
+ghost use Rattle.pen.specs.Emitting.{Lent, Produced};
 ghost use Rattle.emit.specs.Contexts.{context_of};
 ghost use Rattle.parts.specs.Promises.{newer, SoleAt, IsText, TextWritten, LiteralWritten, some_output, Alone, LoneWithin, FrontWithin, FrontIs, starts_with};
 
@@ -25,25 +26,23 @@ use emit::context::Context;
 use emit::jsx_impl::{has_proto, lower_literal};
 use emit::used::Used;
 use jsx_text::fixup_whitespace_and_decode_entities;
-use pen::diagnostics::valueless_key;
 use pen::pen::Pen;
 use root_check::skip::{skip_properties, skip_value};
-use text::bytes::same;
 use text::spans::{Bounds, Span, part, span_bounds};
 
 // Children were lowered, one of them or all: how many survive, and whether one is a spread.
+// kept: a spread counts as any child does, so the flag says nothing of the fields beside it.
 #[derive(Clone, Copy)]
 pub struct Items {
-    pub pen: Pen,
     pub used: usize,
     pub count: usize,
     pub spread: bool,
 }
 
 // Attributes were lowered, one of them or all: whether that gave a property, and where the value of the last key stands that has one.
+// kept: a key may come with or without a property, so the flag says nothing of the fields beside it.
 #[derive(Clone, Copy)]
 pub struct Props {
-    pub pen: Pen,
     pub used: usize,
     pub some: bool,
     pub key: Option<usize>,
@@ -57,6 +56,7 @@ pub enum Front {
     Other(usize),
 }
 
+#[tactic(auto, unfolding(definitions::specs::Lowering::is_classic))]
 pub fn is_classic(mode: Mode) -> bool
     ensures { result ≡ lowering.is_classic mode }
 {
@@ -66,7 +66,7 @@ pub fn is_classic(mode: Mode) -> bool
 fn is_key(context: &Context<'_>, span: Span) -> bool
     ensures { result ≡ is_key (context_of context.now) span }
 {
-    same(part(context.text, span), b"key")
+    part(context.text, span) == b"key".as_slice()
 }
 
 // Whether the value at the front is there.
@@ -74,12 +74,7 @@ fn has_value(tape: &[u8]) -> bool
     ensures { (f : ℕ) (text : List ℕ) (d : ℕ) (v : Value) (u : ℕ) → value_at f text d tape.now ≡ done v u → result ≡ has_value v }
 {
     match value_command_at(tape) {
-        Ok(ValueCommand::Absent) => false,
-        Ok(ValueCommand::Text(_)) => true,
-        Ok(ValueCommand::Expression(_)) => true,
-        Ok(ValueCommand::Empty) => true,
-        Ok(ValueCommand::Element(_)) => true,
-        Ok(ValueCommand::Fragment(_)) => true,
+        Ok(value) => !matches!(value, ValueCommand::Absent),
         Err(_) => false,
     }
 }
@@ -106,14 +101,14 @@ pub fn skip_name(tape: &[u8]) -> usize
     ensures within { result ≤ length tape.now }
     ensures read { (f : ℕ) (text : List ℕ) (n : Name) (u : ℕ) → name_at f text tape.now ≡ done n u → result ≡ u }
 {
-    match name_command_at(tape) {
-        Ok(NameCommand::Plain(_)) => sizes::WITH_SPAN,
-        Ok(NameCommand::Identifier(_)) => {
-            sizes::WITH_SPAN + skip_members(&tape[sizes::WITH_SPAN..])
-        }
-        Ok(NameCommand::This) => sizes::BARE + skip_members(&tape[sizes::BARE..]),
-        Ok(NameCommand::Namespaced(_, _)) => sizes::WITH_SPANS,
-        Err(_) => 0,
+    let Ok(command) = name_command_at(tape) else {
+        return 0;
+    };
+    match command {
+        NameCommand::Plain(_) => sizes::WITH_SPAN,
+        NameCommand::Identifier(_) => sizes::WITH_SPAN + skip_members(&tape[sizes::WITH_SPAN..]),
+        NameCommand::This => sizes::BARE + skip_members(&tape[sizes::BARE..]),
+        NameCommand::Namespaced(_, _) => sizes::WITH_SPANS,
     }
 }
 
@@ -122,38 +117,26 @@ pub fn is_valued_key(context: &Context<'_>, span: Span, value: &[u8]) -> bool
     ensures { (f d : ℕ) (v : Value) (u : ℕ) → value_at f context.now.text.now d value.now ≡ done v u →
         result ≡ (is_key (context_of context.now) span && has_value v) }
 {
-    if is_key(context, span) {
-        return has_value(value);
-    }
-    false
+    is_key(context, span) && has_value(value)
 }
 
 // C0 for a key without a value.
-pub fn key_notice(
-    context: &Context<'_>,
-    span: Span,
-    value: &[u8],
-    notices: &mut [u8],
-    pen: Pen,
-) -> Pen
-    ensures { (f d : ℕ) (v : Value) (u : ℕ) → value_at f context.now.text.now d value.now ≡ done v u →
-        Noticed (key_notice (context_of context.now) span v) notices.old notices.new pen result }
+pub fn key_notice(context: &Context<'_>, span: Span, value: &[u8], pen: &mut Pen<'_>)
+    ensures lent { Lent pen.old pen.new }
+    ensures calls_stay { pen.new.calls.now ≡ pen.old.calls.now }
+    ensures notice { (f d : ℕ) (v : Value) (u : ℕ) → value_at f context.now.text.now d value.now ≡ done v u →
+        Produced (key_notice (context_of context.now) span v) pen.old pen.new }
 {
-    if !is_key(context, span) {
-        return pen;
+    if is_key(context, span) && !has_value(value) {
+        pen.valueless_key(span);
     }
-    if has_value(value) {
-        return pen;
-    }
-    valueless_key(notices, pen, span)
 }
 
 // No property, but bytes that are passed.
-pub fn passed(pen: Pen, used: usize, key: Option<usize>) -> Props
-    ensures { result ≡ record { pen = pen; used = used; some = false; key = key } }
+pub fn passed(used: usize, key: Option<usize>) -> Props
+    ensures { result ≡ record { used = used; some = false; key = key } }
 {
     Props {
-        pen,
         used,
         some: false,
         key,
@@ -161,17 +144,16 @@ pub fn passed(pen: Pen, used: usize, key: Option<usize>) -> Props
 }
 
 // The place of a key that was found so many bytes behind `at`, else the one found before.
+#[tactic(auto, unfolding(crate::specs::Promises::newer))]
 pub fn newer(at: usize, key: Option<usize>, before: Option<usize>) -> Option<usize>
     requires { IfSome key (λ k. at + k < 2 ^ 64) }
     ensures { result ≡ newer at key before }
 {
-    match key {
-        Some(place) => Some(at + place),
-        None => before,
-    }
+    key.map(|place| at + place).or(before)
 }
 
 // Whether a tape begins with this code: an end, told without a step.
+#[tactic(auto, unfolding(crate::specs::Promises::starts_with))]
 pub fn starts_with(tape: &[u8], code: u8) -> bool
     ensures { result ≡ starts_with code tape.now }
 {
@@ -179,6 +161,7 @@ pub fn starts_with(tape: &[u8], code: u8) -> bool
 }
 
 // The form of an automatic call's children: 0 one bare item, 1 an array. A lone spread stays in an array.
+// kept: a byte of the call tape, written once as it is; an enum would be made here and turned into the byte by the one caller.
 pub fn children_form(count: usize, spread: bool) -> u8
     ensures { result ≡ form_of count spread }
 {
@@ -186,20 +169,13 @@ pub fn children_form(count: usize, spread: bool) -> u8
 }
 
 // Whether a classic call of an element has a property.
+#[tactic(auto, using(crate::proofs::Spreading::more))]
 pub fn has_more(context: &Context<'_>, some: bool) -> bool
     ensures { (place : places.Place) (os : List Output) → some_output os ≡ some →
         result ≡ some_output (os ++ self_output (context_of context.now) ++ source_output (context_of context.now) place) }
 {
-    if some {
-        return true;
-    }
-    if context.settings.options.flags.source_plugin {
-        return true;
-    }
-    if context.settings.options.flags.self_plugin {
-        return context.self_allowed;
-    }
-    false
+    let flags = context.settings.options.flags;
+    some || flags.source_plugin || (flags.self_plugin && context.self_allowed)
 }
 
 // The first of an object literal's properties: whether there is one.
@@ -208,33 +184,25 @@ fn has_property(tape: &[u8]) -> bool
         result ≡ some_output (lower_literal c e ps) }
 {
     match property_command_at(tape) {
-        Ok(PropertyCommand::Property(_)) => true,
-        Ok(PropertyCommand::Named(_, _)) => true,
-        Ok(PropertyCommand::End) => false,
+        Ok(property) => !matches!(property, PropertyCommand::End),
         Err(_) => false,
     }
 }
 
 // The literal at the front, behind its command of three bytes.
-pub fn literal_attribute(
-    context: &Context<'_>,
-    tape: &[u8],
-    calls: &mut [u8],
-    pen: Pen,
-    e: u16,
-) -> Props
+pub fn literal_attribute(context: &Context<'_>, e: u16, tape: &[u8], pen: &mut Pen<'_>) -> Props
     requires { 3 ≤ length tape.now }
+    ensures lent { Lent pen.old pen.new }
     ensures moves { (result.key ≡ None) × (3 ≤ result.used) × (result.used ≤ length tape.now) }
     ensures literal_written { (f : ℕ) (ps : List Property) (u : ℕ) → length tape.now ≤ f →
         properties_at f context.now.text.now (drop 3 tape.now) ≡ done ps u →
-        LiteralWritten (lower_literal (context_of context.now) e ps) (3 + u) calls.old calls.new pen result }
+        LiteralWritten (lower_literal (context_of context.now) e ps) (3 + u) pen.old pen.new result }
 {
     let properties = &tape[sizes::WITH_EXPRESSION..];
     let some = has_property(properties);
-    let literal = lower_literal(context, e, properties, calls, pen);
+    let used = lower_literal(context, e, properties, pen);
     Props {
-        pen: literal.value,
-        used: sizes::WITH_EXPRESSION + literal.used,
+        used: sizes::WITH_EXPRESSION + used,
         some,
         key: None,
     }
@@ -245,16 +213,15 @@ fn sole(tape: &[u8], e: u16, n: usize) -> Option<Used<u16>>
     requires { n ≤ length tape.now }
     ensures { Alone tape.now e n result }
 {
-    match attribute_command_at(&tape[n..]) {
-        Ok(AttributeCommand::End) => Some(Used {
+    let Ok(command) = attribute_command_at(&tape[n..]) else {
+        return None;
+    };
+    match command {
+        AttributeCommand::End => Some(Used {
             value: e,
             used: n + sizes::BARE,
         }),
-        Ok(AttributeCommand::Plain(_)) => None,
-        Ok(AttributeCommand::Namespaced(_, _)) => None,
-        Ok(AttributeCommand::Spread(_)) => None,
-        Ok(AttributeCommand::Literal(_)) => None,
-        Err(_) => None,
+        _ => None,
     }
 }
 
@@ -264,25 +231,23 @@ pub fn lone_spread(context: &Context<'_>, tape: &[u8]) -> Option<Used<u16>>
     ensures sole_at { (f d : ℕ) (a : Attributes) (u : ℕ) → length tape.now < f →
         attributes_at f context.now.text.now d tape.now ≡ done a u → SoleAt (context_of context.now) a u result }
 {
-    if context.settings.options.flags.self_plugin {
+    let flags = context.settings.options.flags;
+    if flags.self_plugin || flags.source_plugin {
         return None;
     }
-    if context.settings.options.flags.source_plugin {
+    let Ok(command) = attribute_command_at(tape) else {
         return None;
-    }
-    match attribute_command_at(tape) {
-        Ok(AttributeCommand::Spread(e)) => sole(tape, e, sizes::WITH_EXPRESSION),
-        Ok(AttributeCommand::Literal(e)) => {
+    };
+    match command {
+        AttributeCommand::Spread(e) => sole(tape, e, sizes::WITH_EXPRESSION),
+        AttributeCommand::Literal(e) => {
             let proto = has_proto(context, &tape[sizes::WITH_EXPRESSION..]);
             if proto.value {
                 return None;
             }
             sole(tape, e, sizes::WITH_EXPRESSION + proto.used)
         }
-        Ok(AttributeCommand::Plain(_)) => None,
-        Ok(AttributeCommand::Namespaced(_, _)) => None,
-        Ok(AttributeCommand::End) => None,
-        Err(_) => None,
+        _ => None,
     }
 }
 
@@ -290,10 +255,7 @@ pub fn lone_spread(context: &Context<'_>, tape: &[u8]) -> Option<Used<u16>>
 fn is_late_key(context: &Context<'_>, span: Span, seen: bool) -> bool
     ensures { result ≡ (seen && is_key (context_of context.now) span) }
 {
-    if seen {
-        return is_key(context, span);
-    }
-    false
+    seen && is_key(context, span)
 }
 
 // What stands first among the attributes, unless their end does.
@@ -302,25 +264,27 @@ fn front_attribute(context: &Context<'_>, tape: &[u8], seen: bool) -> Option<Fro
     ensures front_is { (f d : ℕ) (a : Attributes) (u : ℕ) → length tape.now < f →
         attributes_at f context.now.text.now d tape.now ≡ done a u → FrontIs (context_of context.now) context.now.text.now d tape.now seen f a u result }
 {
-    match attribute_command_at(tape) {
-        Ok(AttributeCommand::Plain(span)) => {
+    let Ok(command) = attribute_command_at(tape) else {
+        return None;
+    };
+    match command {
+        AttributeCommand::Plain(span) => {
             if is_late_key(context, span, seen) {
                 return Some(Front::Key);
             }
             let value = &tape[sizes::WITH_SPAN..];
             Some(Front::Other(sizes::WITH_SPAN + skip_value(value)))
         }
-        Ok(AttributeCommand::Namespaced(_, _)) => {
+        AttributeCommand::Namespaced(_, _) => {
             let value = &tape[sizes::WITH_SPANS..];
             Some(Front::Other(sizes::WITH_SPANS + skip_value(value)))
         }
-        Ok(AttributeCommand::Spread(_)) => Some(Front::Spread(sizes::WITH_EXPRESSION)),
-        Ok(AttributeCommand::Literal(_)) => {
+        AttributeCommand::Spread(_) => Some(Front::Spread(sizes::WITH_EXPRESSION)),
+        AttributeCommand::Literal(_) => {
             let properties = &tape[sizes::WITH_EXPRESSION..];
             Some(Front::Spread(sizes::WITH_EXPRESSION + skip_properties(properties)))
         }
-        Ok(AttributeCommand::End) => None,
-        Err(_) => None,
+        AttributeCommand::End => None,
     }
 }
 
@@ -351,55 +315,40 @@ pub fn is_classic_element(context: &Context<'_>, tape: &[u8]) -> bool
     ensures { (f d : ℕ) (a : Attributes) (u : ℕ) → length tape.now < f →
         attributes_at f context.now.text.now d tape.now ≡ done a u → result ≡ classic_element (context_of context.now) a }
 {
-    if is_classic(context.settings.mode) {
-        return true;
-    }
-    has_key_after_props_spread(context, tape)
+    is_classic(context.settings.mode) || has_key_after_props_spread(context, tape)
 }
 
 // The last place in a target: a pen that stands has none past it.
 const LAST_PLACE: usize = 0x8000_0000_0000_0000;
 
 // A text child that lies in the text: it is one child if it survives, else none.
-fn text_lines(context: &Context<'_>, span: Span, calls: &mut [u8], pen: Pen) -> Items
+fn text_lines(context: &Context<'_>, span: Span, pen: &mut Pen<'_>) -> Items
     requires { first_ill (part_of context.now.text.now span) ≡ None }
     ensures text { IsText result }
-    ensures text_written { TextWritten context.now.text.now span calls.old calls.new pen result }
+    ensures text_written { TextWritten context.now.text.now span pen.old pen.new result }
 {
-    let at = pen.calls.min(LAST_PLACE);
-    let texted = fixup_whitespace_and_decode_entities(context.text, span, calls, at);
+    let at = pen.call_place.min(LAST_PLACE);
+    let texted = fixup_whitespace_and_decode_entities(context.text, span, &mut *pen.calls, at);
+    pen.call_place = texted.at;
     Items {
-        pen: Pen {
-            calls: texted.at,
-            ..pen
-        },
         used: sizes::WITH_SPAN,
         count: usize::from(texted.survives),
         spread: false,
     }
 }
 
-// A text child of which nothing is known.
-fn no_text(pen: Pen) -> Items
-    ensures { IsText result }
-{
-    Items {
-        pen,
-        used: sizes::WITH_SPAN,
-        count: 0,
-        spread: false,
-    }
-}
-
-// A text child: the pen after its lines, and how many children it is, 0 or 1. A tape that reads has no span that is not in the text.
-pub fn transform_jsx_text(context: &Context<'_>, span: Span, calls: &mut [u8], pen: Pen) -> Items
+// A text child: its lines, and how many children it is, 0 or 1. A tape that reads has no span that is not in the text.
+pub fn transform_jsx_text(context: &Context<'_>, span: Span, pen: &mut Pen<'_>) -> Items
     ensures text { IsText result }
-    ensures text_written { Inside context.now.text.now span → TextWritten context.now.text.now span calls.old calls.new pen result }
+    ensures lent { Lent pen.old pen.new }
+    ensures text_written { Inside context.now.text.now span → TextWritten context.now.text.now span pen.old pen.new result }
 {
     match span_bounds(context.text, span) {
-        Bounds::Outside => no_text(pen),
-        Bounds::Cuts => no_text(pen),
-        Bounds::Empty => text_lines(context, span, calls, pen),
-        Bounds::Good => text_lines(context, span, calls, pen),
+        Bounds::Outside | Bounds::Cuts => Items {
+            used: sizes::WITH_SPAN,
+            count: 0,
+            spread: false,
+        },
+        Bounds::Empty | Bounds::Good => text_lines(context, span, pen),
     }
 }

@@ -1,9 +1,10 @@
 -- A pen over a sound state's records, and what counting a root's output comes to.
+--     pen_is            a pen with a state's store is the pen over it
 --     state_stands      a pen over the records of a sound state stands
 --     calls_small, ..   a root's output is far from the limit of places
 --     counted           a pen that counted from nothing tells the sizes of what a root adds
 -- Assumes nothing.
-use Rattle.std.proofs.Common.{◌≡◌, ℕ, ◌*◌, ◌^◌, ◌≤◌, Bool, true, false, ◌||◌, ltb, List, length, ap, ◌∙◌, arith}
+use Rattle.std.proofs.Common.{MutBor, ◌≡◌, ℕ, ◌*◌, ◌^◌, ◌≤◌, Bool, true, false, ◌||◌, ltb, List, length, ap, ◌∙◌, arith}
 use Rattle.definitions.specs.declared.records.Import.{Import}
 use Rattle.definitions.specs.declared.records.Record.{Record}
 use Rattle.definitions.specs.declared.options.Settings.{Settings}
@@ -16,18 +17,32 @@ use Rattle.definitions.specs.States.{live, imports, sound}
 use Rattle.definitions.specs.Entries.{lowered_after}
 use Rattle.definitions.proofs.Weights.{weight, calls_weigh, notices_weigh, node_weighs}
 use Rattle.definitions.proofs.TreeSizes.{root_size}
+use Rattle.store.specs.declared.module_imports.Store.{Store}
 use Rattle.store.specs.Adding.{store_of}
 use Rattle.store.proofs.Soundness.{sound_holds}
 use Rattle.pen.specs.declared.pen.Pen.{Pen}
 use Rattle.pen.specs.Emitting.{calls_from, notices_from, bound_from, Stands, Emitted}
 
--- a pen over a state's store
-abbrev pub pen_of : State → ℕ → ℕ → Pen
-pen_of s calls notices = record { calls = calls; notices = notices; store = store_of s; full = false }
+-- a pen over a state's store, into these targets from these places on
+abbrev pub pen_of : State → MutBor (List ℕ) → MutBor (List ℕ) → ℕ → ℕ → Pen
+pen_of s calls notices call_place notice_place =
+    record { calls = calls; notices = notices; store = store_of s; full = false; notice_place = notice_place; call_place = call_place }
 
-pub state_stands : (text : List ℕ) (s : State) (calls notices : ℕ) → length s.records ≡ 8 → sound text s ≡ true → calls ≤ 2 ^ 63 → notices ≤ 2 ^ 63
-    → Stands s.records (imports (live s)) (pen_of s calls notices)
-state_stands text s calls notices eight good h k = record { store = λ free. sound_holds text s good eight; calls_small = h; notices_small = k }
+pub pen_is : (s : State) {x : Store} (calls notices : MutBor (List ℕ)) (call_place notice_place : ℕ) → x ≡ store_of s
+    → record { calls = calls; notices = notices; store = x; full = false; notice_place = notice_place; call_place = call_place } ≡ pen_of s calls notices call_place notice_place
+pen_is s calls notices call_place notice_place e =
+    ap (λ (x : Store). record { calls = calls; notices = notices; store = x; full = false; notice_place = notice_place; call_place = call_place }) e
+
+pub state_stands : (text : List ℕ) (s : State) (calls notices : MutBor (List ℕ)) (call_place notice_place : ℕ) → length s.records ≡ 8 → sound text s ≡ true
+    → length calls.now ≤ 2 ^ 63 → length notices.now ≤ 2 ^ 63 → call_place ≤ 2 ^ 63 → notice_place ≤ 2 ^ 63
+    → Stands s.records (imports (live s)) (pen_of s calls notices call_place notice_place)
+state_stands text s calls notices call_place notice_place eight good short short' h k = record {
+  store = λ free. sound_holds text s good eight;
+  calls_short = short;
+  notices_short = short';
+  calls_small = h;
+  notices_small = k;
+}
 
 -- ---- sizes
 
@@ -44,11 +59,11 @@ module _ (text tape : List ℕ) (s : Settings) (js : List Import) (r : Root) (u 
   notices_small = omega (arith, notices_weigh (lower_root text s r), output_small)
 
   -- a pen that counted from nothing tells the sizes
-  pub counted : {a : List Record} {cs cs' ns ns' : List ℕ} {p p' : Pen} → p.calls ≡ 0 → p.notices ≡ 0 → p.full ≡ false
-      → Emitted a js (lower_root text s r) cs cs' ns ns' p p'
+  pub counted : {a : List Record} {p p' : Pen} → p.call_place ≡ 0 → p.notice_place ≡ 0 → p.full ≡ false
+      → Emitted a js (lower_root text s r) p p'
       → (p'.full ≡ ltb 8 (length (lowered_after text s js r).bound))
-      × (p'.calls ≡ length (lowered_after text s js r).calls)
-      × (p'.notices ≡ length (lowered_after text s js r).notices)
+      × (p'.call_place ≡ length (lowered_after text s js r).calls)
+      × (p'.notice_place ≡ length (lowered_after text s js r).notices)
   unfolding lowered_after
   counted x y z e = (
     e.fullness ∙ ap (λ (b : Bool). b || ltb 8 (length (bound_from js (lower_root text s r)))) z,

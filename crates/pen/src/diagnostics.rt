@@ -1,33 +1,30 @@
 // Notices (diagnostics.rs).
-ghost use Rattle.std.specs.Prelude.{[], ◌∷◌};
+ghost use Rattle.std.specs.Prelude.{◌≡◌, [], ◌∷◌};
 ghost use Rattle.definitions.specs.Calls.{valueless_key, namespaced_tag};
 ghost use Rattle.definitions.specs.Lowering.{notify};
-ghost use Rattle.pen.specs.Emitting.{Noticed};
+ghost use Rattle.pen.specs.Emitting.{Produced};
 
 use crate::pen::Pen;
 use definitions::record_tape;
-use tape::target;
 use text::spans::Span;
 
-// A key without a value.
-pub fn valueless_key(notices: &mut [u8], pen: Pen, span: Span) -> Pen
-    ensures { Noticed (notify (valueless_key span) ∷ []) notices.old notices.new pen result }
-{
-    let at = target::put(notices, pen.notices, record_tape::VALUELESS_KEY);
-    Pen {
-        notices: target::put_span(notices, at, span),
-        ..pen
+impl<'a> Pen<'a> {
+    // A key without a value.
+    pub fn valueless_key(&mut self, span: Span)
+        ensures notice { Produced (notify (valueless_key span) ∷ []) self.old self.new }
+        ensures calls_stay { self.new.calls.now ≡ self.old.calls.now }
+    {
+        self.put_notice(record_tape::VALUELESS_KEY);
+        self.put_notice(span);
     }
-}
 
-// A tag with a namespace, under `throw_if_namespace`.
-pub fn namespace_does_not_support(notices: &mut [u8], pen: Pen, namespace: Span, name: Span) -> Pen
-    ensures { Noticed (notify (namespaced_tag namespace name) ∷ []) notices.old notices.new pen result }
-{
-    let at = target::put(notices, pen.notices, record_tape::NAMESPACED_TAG);
-    let behind = target::put_span(notices, at, namespace);
-    Pen {
-        notices: target::put_span(notices, behind, name),
-        ..pen
+    // A tag with a namespace, under `throw_if_namespace`.
+    pub fn namespace_does_not_support(&mut self, namespace: Span, name: Span)
+        ensures notice { Produced (notify (namespaced_tag namespace name) ∷ []) self.old self.new }
+        ensures calls_stay { self.new.calls.now ≡ self.old.calls.now }
+    {
+        self.put_notice(record_tape::NAMESPACED_TAG);
+        self.put_notice(namespace);
+        self.put_notice(name);
     }
 }

@@ -1,100 +1,104 @@
-// The pen: where writing goes on in both targets, what is bound, and whether a binding found no number.
-ghost use Rattle.std.specs.Prelude.{◌≡◌, ◌+◌, ◌<◌, [], ◌∷◌};
+// The pen: both targets and where writing goes on in them, what is bound, and whether a binding found no number.
+ghost use Rattle.std.specs.Prelude.{◌≡◌, ◌+◌, ◌<◌, [], ◌∷◌, unwrap_or};
 ghost use Rattle.definitions.specs.declared.records.Import.TheVariants.{FileName};
 ghost use Rattle.definitions.specs.Calls.{source};
 ghost use Rattle.definitions.specs.Lowering.{emit, put, put_byte, put_over, put_span, put_binding};
-ghost use Rattle.pen.specs.Emitting.{Called};
+ghost use Rattle.store.specs.Adding.{added};
+ghost use Rattle.pen.specs.Emitting.{Lent, WroteCall, WroteNotice, Produced, numbered_pen};
 
 use commands::root::Place;
 use definitions::call_tape;
 use definitions::call_tape::{Bare, Coded, WithByte, WithExpression, WithSpan};
 use definitions::records::Import;
 use store::module_imports::Store;
-use tape::target;
+use tape::target::Encode;
 use text::spans::Span;
 
-// Every command moves the place in the call target; it stands last, so that a copy of the rest does not wait for it.
-#[derive(Clone, Copy)]
-pub struct Pen {
+#[derive(Drop)]
+pub struct Pen<'a> {
+    pub calls: &'a mut [u8],
+    pub notices: &'a mut [u8],
     pub store: Store,
+    // kept: numbers run out seldom, and counting goes on: an `Option` of the store would be matched at each binding
     pub full: bool,
-    pub notices: usize,
-    pub calls: usize,
+    pub notice_place: usize,
+    pub call_place: usize,
 }
 
-// A command with no operand.
-pub fn put_bare(calls: &mut [u8], pen: Pen, command: Bare) -> Pen
-    ensures { Called (put command) calls.old calls.new pen result }
-{
-    Pen {
-        calls: target::put(calls, pen.calls, command.code()),
-        ..pen
+impl<'a> Pen<'a> {
+    // Bytes behind the calls.
+    fn put_call<T: Encode>(&mut self, x: T)
+        ensures { WroteCall (T.bytes x) self.old self.new }
+    {
+        self.call_place = x.encode(self.calls, self.call_place);
     }
-}
 
-// A command with a byte.
-pub fn put_byte(calls: &mut [u8], pen: Pen, command: WithByte, n: u8) -> Pen
-    ensures { Called (put_byte command n) calls.old calls.new pen result }
-{
-    Pen {
-        calls: target::put_two(calls, pen.calls, command.code(), n),
-        ..pen
+    // Bytes behind the notices.
+    pub(crate) fn put_notice<T: Encode>(&mut self, x: T)
+        ensures { WroteNotice (T.bytes x) self.old self.new }
+    {
+        self.notice_place = x.encode(self.notices, self.notice_place);
     }
-}
 
-// A command with an expression of the host's.
-pub fn put_over(calls: &mut [u8], pen: Pen, command: WithExpression, e: u16) -> Pen
-    ensures { Called (put_over command e) calls.old calls.new pen result }
-{
-    let at = target::put(calls, pen.calls, command.code());
-    Pen {
-        calls: target::put_u16(calls, at, e),
-        ..pen
+    // A command with no operand.
+    pub fn put_bare(&mut self, bare: Bare)
+        ensures { Produced (put bare) self.old self.new }
+    {
+        self.put_call(bare.code());
     }
-}
 
-// A command with a span.
-pub fn put_spanned(calls: &mut [u8], pen: Pen, command: WithSpan, span: Span) -> Pen
-    ensures { Called (put_span command span) calls.old calls.new pen result }
-{
-    let at = target::put(calls, pen.calls, command.code());
-    Pen {
-        calls: target::put_span(calls, at, span),
-        ..pen
+    // A command with a byte.
+    pub fn put_byte(&mut self, command: WithByte, n: u8)
+        ensures { Produced (put_byte command n) self.old self.new }
+    {
+        self.put_call([command.code(), n]);
     }
-}
 
-// A binding. Where there is no number left, any byte stands in its place and counting goes on.
-pub fn put_binding(calls: &mut [u8], pen: Pen, import: Import) -> Pen
-    ensures { Called (put_binding import) calls.old calls.new pen result }
-{
-    let mut store = pen.store;
-    let number = store.add_import(import);
-    let end = target::put_two(calls, pen.calls, call_tape::BINDING, number.unwrap_or(0));
-    Pen {
-        store,
-        full: pen.full | number.is_none(),
-        calls: end,
-        ..pen
+    // A command with an expression of the host's.
+    pub fn put_over(&mut self, command: WithExpression, e: u16)
+        ensures { Produced (put_over command e) self.old self.new }
+    {
+        let code = command.code();
+        self.put_call(code);
+        self.put_call(e);
     }
-}
 
-// The file name's binding with a line and a column, which count from 0 on the root tape and from 1 on the call tape. The root tape's check
-// has refused the greatest number, so the sums don't wrap.
-pub fn put_source(calls: &mut [u8], pen: Pen, place: Place) -> Pen
-    ensures { place.line < 4294967295 → place.column < 4294967295 → Called (emit (source FileName (record { line = place.line + 1; column = place.column + 1 })) ∷ []) calls.old calls.new pen result }
-{
-    let line = place.line.wrapping_add(1);
-    let column = place.column.wrapping_add(1);
-    let mut store = pen.store;
-    let number = store.add_import(Import::FileName);
-    let at = target::put_two(calls, pen.calls, call_tape::SOURCE, number.unwrap_or(0));
-    let behind = target::put_u32(calls, at, line);
-    let end = target::put_u32(calls, behind, column);
-    Pen {
-        store,
-        full: pen.full | number.is_none(),
-        calls: end,
-        ..pen
+    // A command with a span.
+    pub fn put_spanned(&mut self, command: WithSpan, span: Span)
+        ensures { Produced (put_span command span) self.old self.new }
+    {
+        let code = command.code();
+        self.put_call(code);
+        self.put_call(span);
+    }
+
+    // The number of an import. Where there is none left, any byte stands in its place and counting goes on.
+    fn number_of(&mut self, import: Import) -> u8
+        ensures number { result ≡ unwrap_or (added self.old.store import).number 0 }
+        ensures after { self.new ≡ numbered_pen self.old import }
+    {
+        let number = self.store.add_import(import);
+        self.full = self.full | number.is_none();
+        number.unwrap_or(0)
+    }
+
+    // A binding.
+    pub fn put_binding(&mut self, import: Import)
+        ensures { Produced (put_binding import) self.old self.new }
+    {
+        let number = self.number_of(import);
+        self.put_call([call_tape::BINDING, number]);
+    }
+
+    // The file name's binding with a line and a column, which count from 0 on the root tape and from 1 on the call tape. The root tape's check
+    // has refused the greatest number, so the sums don't wrap.
+    pub fn put_source(&mut self, place: Place)
+        ensures lent { Lent self.old self.new }
+        ensures written { place.line < 4294967295 → place.column < 4294967295 → Produced (emit (source FileName (record { line = place.line + 1; column = place.column + 1 })) ∷ []) self.old self.new }
+    {
+        let number = self.number_of(Import::FileName);
+        self.put_call([call_tape::SOURCE, number]);
+        self.put_call(place.line.wrapping_add(1));
+        self.put_call(place.column.wrapping_add(1));
     }
 }

@@ -1,2 +1,3 @@
 pub mod Splitting
 pub mod Places
+pub mod InForce

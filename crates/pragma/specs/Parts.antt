@@ -1,8 +1,17 @@
--- The parts of a pragma as a walk meets them.
-use Rattle.std.specs.Prelude.{ℕ, List, [], ◌∷◌, length, eqb}
+-- The pragma in force, and its parts as a walk meets them.
+use Rattle.std.specs.Prelude.{ℕ, List, [], ◌∷◌, length, eqb, Option, None}
 use Rattle.std.specs.Option.{unwrap_or}
 use Rattle.text.specs.Bytes.{find}
+use Rattle.text.specs.declared.spans.Span.{Span}
+use Rattle.definitions.specs.declared.options.Mode.{Mode}
+use Rattle.definitions.specs.declared.options.Mode.TheVariants.{Module, Script, Classic}
 use Rattle.definitions.specs.Pragmas.{split}
+
+-- only classic bindings have pragmas
+abbrev pub in_force : Mode → Option Span → Option Span
+in_force Module p = None
+in_force Script p = None
+in_force Classic p = p
 
 -- how many bytes stand before the first dot
 abbrev pub first_length : List ℕ → ℕ

@@ -6,7 +6,7 @@ ghost use Rattle.std.specs.List.{list_all, list_any};
 ghost use Rattle.std.specs.Iterator.{YieldsFirstRef, item_count};
 ghost use Rattle.definitions.specs.Pragmas.{is_identifier_start, is_identifier_part, is_identifier_name, is_reserved_word, tail_from, meta_behind, pragma_of, pragma_in, form_by};
 ghost use Rattle.definitions.specs.Opening.{pragma_under, form_under, over_ascii_in, if_classic};
-ghost use Rattle.pragma.specs.Parts.{first_length, parts_behind};
+ghost use Rattle.pragma.specs.Parts.{first_length, parts_behind, in_force};
 
 use definitions::options::{Form, InvalidPart, Mode, PragmaRoot};
 use text::bytes::{find_byte, find_over_ascii};
@@ -26,6 +26,7 @@ fn is_identifier_part(b: u8) -> bool
     is_identifier_start(b) | b.is_ascii_digit()
 }
 
+// kept: behind another test the clause of `all` isn't found (tried with `search` and `grind`), so it stands in a function of its own
 fn are_identifier_parts(s: &[u8]) -> bool
     ensures { result ≡ list_all is_identifier_part s.now }
 {
@@ -91,6 +92,7 @@ const RESERVED_WORDS: [&[u8]; 38] = [
 ];
 
 // Whether `w` is one of these words.
+// kept: over the constant itself the clause of `any` isn't found (tried with `search` and `grind`), so the words are a parameter
 fn is_one_of(w: &[u8], words: &[&[u8]]) -> bool
     ensures { result ≡ list_any (λ word. bytes_eq w.now word.now) words.now }
 {
@@ -154,11 +156,7 @@ fn read_meta(len: usize, mut parts: Parts) -> Result<Form, InvalidPart>
     ensures { result ≡ meta_behind len (parts_behind parts.entry.left.now) }
 {
     match parts.next() {
-        Some(part) if part == b"meta".as_slice() => read_tail(
-            PragmaRoot::ImportMeta,
-            parts,
-            len + 1 + part.len() + 1,
-        ),
+        Some(b"meta") => read_tail(PragmaRoot::ImportMeta, parts, len + 1 + b"meta".len() + 1),
         _ => Err(InvalidPart { place: 0, len }),
     }
 }
@@ -171,13 +169,14 @@ pub fn parse_impl(pragma: &[u8]) -> Result<Form, InvalidPart>
     let len = first_length(pragma);
     let (root, left) = pragma.split_at(len);
     let parts = Parts { left };
+    // kept: a match on the two words has thirteen ways to its last arm, each an answer of its own; the tests need none
     if root == b"this".as_slice() {
         return read_tail(PragmaRoot::This, parts, len + 1);
     }
     if root == b"import".as_slice() {
         return read_meta(len, parts);
     }
-    if !is_identifier_name(root) | is_reserved_keyword(root) {
+    if !is_identifier_name(root) || is_reserved_keyword(root) {
         return Err(InvalidPart { place: 0, len });
     }
     read_tail(PragmaRoot::Identifier, parts, len + 1)
@@ -191,17 +190,25 @@ pub fn parse_no_ctx(text: &[u8], pragma: Option<Span>) -> Result<Option<Form>, I
     let Some(span) = pragma else {
         return Ok(None);
     };
-    match parse_impl(part(text, span)) {
-        Ok(form) => Ok(Some(form)),
-        Err(InvalidPart { place, len }) => Err(InvalidPart {
-            place: span.start as usize + place,
-            len,
-        }),
+    let form = parse_impl(part(text, span)).map_err(|part| InvalidPart {
+        place: usize::from(span.start).saturating_add(part.place),
+        ..part
+    })?;
+    Ok(Some(form))
+}
+
+// Only classic bindings have pragmas.
+fn in_force(mode: Mode, pragma: Option<Span>) -> Option<Span>
+    ensures { result ≡ in_force mode pragma }
+{
+    match mode {
+        Mode::Module | Mode::Script => None,
+        Mode::Classic => pragma,
     }
 }
 
-// A pragma in these bindings: only classic ones have pragmas.
-#[tactic(auto, unfolding(definitions::specs::Opening::pragma_under))]
+// A pragma in these bindings.
+#[tactic(auto, using(crate::proofs::InForce::pragma_in_force))]
 pub fn pragma_under(
     mode: Mode,
     text: &[u8],
@@ -209,10 +216,7 @@ pub fn pragma_under(
 ) -> Result<Option<Form>, InvalidPart>
     ensures { result ≡ pragma_under mode text.now pragma }
 {
-    match mode {
-        Mode::Module | Mode::Script => Ok(None),
-        Mode::Classic => parse_no_ctx(text, pragma),
-    }
+    parse_no_ctx(text, in_force(mode, pragma))
 }
 
 // The form that settings take: the default's where none is there and where it is not valid.
@@ -220,13 +224,7 @@ pub fn pragma_under(
 pub fn form_by(read: Result<Option<Form>, InvalidPart>) -> Form
     ensures { result ≡ form_by read }
 {
-    match read {
-        Ok(Some(form)) => form,
-        Ok(None) | Err(_) => Form {
-            root: PragmaRoot::Default,
-            tail: 0,
-        },
-    }
+    read.ok().flatten().unwrap_or_default()
 }
 
 // The form of a pragma in these bindings.
@@ -243,16 +241,13 @@ fn over_ascii_in(text: &[u8], pragma: Option<Span>) -> Option<usize>
 {
     let span = pragma?;
     let place = find_over_ascii(part(text, span))?;
-    Some(span.start as usize + place)
+    Some(usize::from(span.start) + place)
 }
 
-// The same in these bindings: only in classic ones a pragma is in force.
-#[tactic(auto, unfolding(definitions::specs::Opening::if_classic))]
+// The same in these bindings.
+#[tactic(auto, using(crate::proofs::InForce::over_ascii_in_force))]
 pub fn over_ascii_under(mode: Mode, text: &[u8], pragma: Option<Span>) -> Option<usize>
     ensures { result ≡ if_classic mode (over_ascii_in text.now pragma) }
 {
-    match mode {
-        Mode::Classic => over_ascii_in(text, pragma),
-        Mode::Module | Mode::Script => None,
-    }
+    over_ascii_in(text, in_force(mode, pragma))
 }

@@ -1,22 +1,24 @@
 -- What writing a record tape answers and leaves in the target (`judge_tape` of definitions, Entries), by the code's tests.
 --     Comes                       an answer and a target that a judgement comes to
---     tape_size, tape_laid        what the two runs over the records give: the tape's length, and the target with the tape
 --     crowded, roomy              refusal 10, and a target with room
+--     fitted_comes, tape_comes    what was measured, and then written where it fits
 -- Assumes nothing.
 use Rattle.std.specs.Prelude.{Err, Ok, Result}
 use Rattle.tape.specs.declared.refusal.Refusal.{Refusal}
-use mathlib.Core.Path.{◌≡◌, refl, ap, ◌∙◌}
+use mathlib.Core.Path.{◌≡◌, refl, sym, ap, ◌∙◌}
+use mathlib.Core.Bool.{Bool, true, false, cond}
 use mathlib.Core.List.{List, [], ◌∷◌, ◌++◌}
-use Prim.Native.Nat.{ℕ, ◌+◌, ◌*◌, ◌≤◌, ◌<◌}
+use Prim.Native.Nat.{ℕ, ◌+◌, ◌*◌, ◌^◌, ◌≤◌, ◌<◌}
 use native.Mathlib.Omega.{arith}
-use lib.ListN.{length, length-append}
+use lib.ListN.{length, drop, length-append}
+use lib.Dec.{ltb}
+use Rattle.std.proofs.Common.{zero-add}
 use borrow.Author.Tests.{lt-ltb, le-ltb}
 use Rattle.tape.specs.declared.refusal.Refusal.TheVariants.{Space}
-use Rattle.tape.specs.Targets.{Wrote}
-use Rattle.tape.proofs.Targets.{sets_room}
+use Rattle.tape.specs.Targets.{Fitted}
 use Rattle.definitions.specs.declared.options.Mode.{Mode}
 use Rattle.definitions.specs.declared.records.Record.{Record}
-use Rattle.definitions.specs.Judging.{Judged, refuse}
+use Rattle.definitions.specs.Judging.{Judged, accepted, refuse}
 use Rattle.definitions.specs.Records.{groups_from, entries_in, group_tape, place_in, file_name_tape, record_tape}
 use Rattle.definitions.specs.Entries.{laid, judge_tape, records_answer, records_target}
 use Rattle.records.specs.declared.groups.Groups.{Groups}
@@ -54,12 +56,8 @@ module _ (m : Mode) (g : Groups) (rs : List Record) (e : sources_of g ≡ groups
   unfolding tape_of record_tape
   tape_is = rw e
 
-  pub tape_size : {o o' : List ℕ} {r : ℕ} → length rs ≤ 8 → Wrote o o' 0 r (tape_of m g rs) → r ≡ length (record_tape m rs)
-  tape_size h w = omega (arith, w.next, tape_length m g rs) ∙ ap length tape_is
-
-  pub tape_laid : {o o' : List ℕ} {r : ℕ} → length (record_tape m rs) ≤ length o → Wrote o o' 0 r (tape_of m g rs) → o' ≡ laid 0 (record_tape m rs) o
-  unfolding laid
-  tape_laid {o} h w = w.holds ∙ rw tape_is (sets_room o 0 (record_tape m rs) (omega arith))
+  tape_short : length rs ≤ 8 → length (tape_of m g rs) < 2 ^ 63
+  tape_short h = omega (arith, tape_length m g rs)
 
 -- ---- by the code's tests
 
@@ -70,3 +68,18 @@ crowded t o h = rw (lt-ltb (length o) (length t) h) (refl, refl)
 pub roomy : (t o : List ℕ) → length t ≤ length o → Comes (judge_tape t (length o)) (Ok (length t)) o (laid 0 t o)
 unfolding refuse records_answer records_target
 roomy t o h = rw (le-ltb (length o) (length t) h) (refl, refl)
+
+-- what was measured, and then written where it fits
+pub fitted_comes : (t o : List ℕ) {r : Result ℕ Refusal} {o' : List ℕ} → Fitted t o r o' → Comes (judge_tape t (length o)) r o o'
+unfolding refuse records_answer records_target laid
+fitted_comes t o {r} {o'} w = go (ltb (length o) (length t)) w.value (w.holds ∙ ap (λ (n : ℕ). cond (ltb (length o) (length t)) o (t ++ drop n o)) (sym (zero-add (length t))))
+  where
+    go : (b : Bool) → r ≡ cond b (Err (Space (length t))) (Ok (length t)) → o' ≡ cond b o (t ++ drop (0 + length t) o)
+        → Comes (refuse b (Space (length t)) (accepted t)) r o o'
+    go true p q = (p, q)
+    go false p q = (p, q)
+
+module _ (m : Mode) (g : Groups) (rs : List Record) (e : sources_of g ≡ groups_from [] rs) where
+  pub tape_comes : (o : List ℕ) {r : Result ℕ Refusal} {o' : List ℕ} → length rs ≤ 8
+      → ((bs : List ℕ) → length bs < 2 ^ 63 → bs ≡ tape_of m g rs → Fitted bs o r o') → Comes (judge_tape (record_tape m rs) (length o)) r o o'
+  tape_comes o h f = rw (← tape_is m g rs e) (fitted_comes (tape_of m g rs) o (f (tape_of m g rs) (tape_short m g rs e h) refl))

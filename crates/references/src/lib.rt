@@ -19,6 +19,19 @@ pub enum Kind {
     Hexadecimal,
 }
 
+impl Kind {
+    #[tactic(auto, unfolding(crate::specs::References::is_of))]
+    fn contains(self, b: u8) -> bool
+        ensures { result ≡ is_of self b }
+    {
+        match self {
+            Kind::Name => b.is_ascii_alphanumeric(),
+            Kind::Decimal => b.is_ascii_digit(),
+            Kind::Hexadecimal => b.is_ascii_hexdigit(),
+        }
+    }
+}
+
 // What an ampersand can open: bytes of this kind behind so many bytes.
 #[derive(Clone, Copy)]
 struct Opening {
@@ -26,21 +39,11 @@ struct Opening {
     len: usize,
 }
 
-fn is_of(kind: Kind, b: u8) -> bool
-    ensures { result ≡ is_of kind b }
-{
-    match kind {
-        Kind::Name => b.is_ascii_alphanumeric(),
-        Kind::Decimal => b.is_ascii_digit(),
-        Kind::Hexadecimal => b.is_ascii_hexdigit(),
-    }
-}
-
 // How many bytes of this kind stand at the front.
 fn run(s: &[u8], kind: Kind) -> usize
     ensures { result ≡ run kind s.now }
 {
-    s.iter().take_while(|b| is_of(kind, **b)).count()
+    s.iter().take_while(|b| kind.contains(**b)).count()
 }
 
 // Whether the byte at place i is `b`.
@@ -55,12 +58,9 @@ fn behind_plus(s: &[u8], n: usize, kind: Kind) -> Opening
     ensures { result ≡ signed kind n s.now }
 {
     if is_at(s, n, b'+') {
-        return Opening {
-            kind: kind,
-            len: n + 1,
-        };
+        return Opening { kind, len: n + 1 };
     }
-    Opening { kind: kind, len: n }
+    Opening { kind, len: n }
 }
 
 // The opening that begins with the ampersand at the front.

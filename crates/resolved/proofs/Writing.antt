@@ -1,24 +1,25 @@
 -- Writing what fits, behind the tests of text and state.
 --     crowded_by, roomy_by             refusal 10, and a target with room, where the size was measured
---     source_size                      the text of a source is measured right
+--     source_comes                     the text of a source, measured and then written where it fits
 -- Assumes nothing.
-use Rattle.std.specs.Prelude.{Err, None, Ok, Option, Some}
+use Rattle.std.specs.Prelude.{Err, None, Ok, Option, Result, Some}
 use mathlib.Core.Path.{◌≡◌, ◌∙◌}
 use mathlib.Core.Bool.{Bool, true, false, cond}
 use mathlib.Core.List.{List, [], ◌∷◌, ◌++◌}
-use Prim.Native.Nat.{ℕ, ◌+◌, ◌≤◌, ◌<◌}
+use Prim.Native.Nat.{ℕ, ◌+◌, ◌^◌, ◌≤◌, ◌<◌}
 use native.Mathlib.Omega.{arith}
 use lib.ListN.{length, drop, length-append, length-take, length-drop}
 use lib.Dec.{eqb}
 use Rattle.text.specs.declared.spans.Span.{Span}
 use Rattle.text.specs.Spans.{part_of}
+use Rattle.tape.specs.declared.refusal.Refusal.{Refusal}
 use Rattle.tape.specs.declared.refusal.Refusal.TheVariants as refusal
-use Rattle.tape.specs.Targets.{Wrote}
+use Rattle.tape.specs.Targets.{Wrote, Fitted}
 use Rattle.tape.proofs.Targets.{sets_room}
 use Rattle.definitions.specs.declared.options.Options.{Options}
 use Rattle.definitions.specs.Opening.{or_react, import_source, runtime_source}
 use Rattle.definitions.specs.Entries.{laid, judge_tape}
-use Rattle.records.proofs.Writing.{Comes, crowded, roomy}
+use Rattle.records.proofs.Writing.{Comes, crowded, roomy, fitted_comes}
 use Rattle.resolved.specs.Resolved.{runtime_path, source_text}
 
 -- ---- the room
@@ -64,6 +65,6 @@ source_length text o n = go (eqb n 0)
     go true = omega (arith, import_length text o.import_source)
     go false = omega (arith, import_length text o.import_source, path_length o.flags.development, length-append i (runtime_path o.flags.development))
 
-pub source_size : (text : List ℕ) (o : Options) (n : ℕ) {spare after : List ℕ} {r : ℕ} → length text ≤ 65535 → Wrote spare after 0 r (source_text text o n)
-    → r ≡ length (source_text text o n)
-source_size text o n h w = omega (arith, w.next, source_length text o n)
+pub source_comes : (text : List ℕ) (o : Options) (n : ℕ) (target : List ℕ) {r : Result ℕ Refusal} {target' : List ℕ} → length text ≤ 65535
+    → (length (source_text text o n) < 2 ^ 63 → Fitted (source_text text o n) target r target') → Comes (judge_tape (source_text text o n) (length target)) r target target'
+source_comes text o n target h f = fitted_comes (source_text text o n) target (f (omega (arith, source_length text o n)))

@@ -10,7 +10,7 @@ use lib.ListN.{length, take, drop, length-drop}
 use Rattle.std.specs.Prelude.{Ok, Err}
 use Rattle.text.proofs.Lists.{tail_part}
 use Rattle.definitions.specs.Judging.{Parsed, from}
-use Rattle.root_check.specs.declared.check.TapeError.{TapeError}
+use Rattle.tape.specs.declared.refusal.TapeError.{TapeError}
 use Rattle.root_check.specs.Checking.{Scan, report, shifted, reach, Within, Reports, Opens}
 use Rattle.root_check.proofs.Scans.{report_from}
 use Rattle.root_check.proofs.Readings.{Reads, reads_within, behind}

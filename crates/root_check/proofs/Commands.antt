@@ -19,32 +19,13 @@ use Rattle.commands.specs.Root.{name_command, value_command}
 use Rattle.definitions.specs.Judging.{Parsed, error_place, named, worse}
 use Rattle.definitions.specs.Tree.{plain, identifier, this, namespaced, Node, element, fragment, string, node_value}
 use Rattle.definitions.specs.Reading.{lettered, opened, name_by, value_by, members_at, name_at, element_at, fragment_at, attributes_at, value_at, children_at}
-use Rattle.root_check.specs.declared.check.TapeError.{TapeError}
-use Rattle.root_check.specs.Checking.{fault_at, Scan, report, taken, shifted, sequel, reach, Within, Reports, Opens, legible}
+use Rattle.tape.specs.declared.refusal.TapeError.{TapeError}
+use Rattle.tape.specs.Refusals.{fault_at}
+use Rattle.root_check.specs.Checking.{Scan, report, taken, shifted, sequel, reach, Within, Reports, Opens}
 use Rattle.root_check.specs.InOrder.{Placed, InOrder}
 use Rattle.root_check.proofs.Scans.{report_from, report_map, report_then, named_then, named_done, lettered_done, opened_then}
 use Rattle.root_check.proofs.Readings.{Reads, less, reads_within, opened_reads, element_reads, fragment_reads}
 use Rattle.root_check.proofs.Behind.{part, part_reach, reports_part}
-
--- ---- a command was read, or not
-
-module _ {C : Type 0} (t : List ℕ) {q command : Result C CommandError} {r : Result C TapeError} (reads : q ≡ command) (h : r ≡ legible t q) where
-  -- the code went on with y
-  pub command_read : {x y : C} → r ≡ Ok x → x ≡ y → command ≡ Ok y
-  unfolding legible
-  command_read {x} {y} e i = go q reads h
-    where
-      go : (q : Result C CommandError) → q ≡ command → r ≡ legible t q → command ≡ Ok y
-      go (Ok z) reads h = cc
-      go (Err z) reads h = let z : ◌≡◌ {A = ℕ} 0 1 = cc in absurd (omega arith)
-
-  pub command_unread : {e : TapeError} → r ≡ Err e → (x : CommandError) × (command ≡ Err x) × (e ≡ fault_at fault.Grammar (error_place t x))
-  unfolding legible
-  command_unread {e} k = go q reads h
-    where
-      go : (q : Result C CommandError) → q ≡ command → r ≡ legible t q → (x : CommandError) × (command ≡ Err x) × (e ≡ fault_at fault.Grammar (error_place t x))
-      go (Ok z) reads h = let z : ◌≡◌ {A = ℕ} 0 1 = cc in absurd (omega arith)
-      go (Err z) reads h = (z, sym reads, cc)
 
 -- ---- a name
 

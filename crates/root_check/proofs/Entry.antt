@@ -13,6 +13,8 @@ use Rattle.text.proofs.Lists.{tail_part}
 use Rattle.tape.specs.declared.refusal.Fault.TheVariants as fault
 use Rattle.commands.specs.declared.error.CommandError.{CommandError}
 use Rattle.commands.specs.declared.root.Place.{Place}
+use Rattle.commands.specs.declared.root.Heritage.{Heritage}
+use Rattle.commands.specs.declared.root.ScopeKind.{ScopeKind}
 use Rattle.commands.specs.declared.root.ScopeCommand.{ScopeCommand}
 use Rattle.commands.specs.declared.root.ScopeCommand.TheVariants as scopes
 use Rattle.commands.specs.Root.{heritage_command, scope_command}
@@ -20,8 +22,9 @@ use Rattle.commands.specs.Sizes.{scope_size}
 use Rattle.commands.proofs.Lengths.{scope_fits}
 use Rattle.definitions.specs.Judging.{Parsed, done, stop, ◌then◌, from, error_place}
 use Rattle.definitions.specs.Reading.{opened, element_at, fragment_at, is_function, in_scope, unscoped, scopes_by, scopes_at, root_by, whole, read_root}
-use Rattle.root_check.specs.declared.check.TapeError.{TapeError}
-use Rattle.root_check.specs.Checking.{fault_at, Scan, checked, closed, report, shifted, reach, Reports, Opens}
+use Rattle.tape.specs.declared.refusal.TapeError.{TapeError}
+use Rattle.tape.specs.Refusals.{fault_at}
+use Rattle.root_check.specs.Checking.{Scan, checked, closed, report, shifted, reach, Reports, Opens}
 use Rattle.root_check.proofs.Scans.{report_from, report_map}
 use Rattle.root_check.proofs.Behind.{part, part_length, within_reach, reports_part}
 use Rattle.root_check.proofs.Commands.{element_opens_within, fragment_opens_within}
@@ -37,7 +40,7 @@ module _ {all : ℕ → Scan} (text tape : List ℕ) (found : Bool) {i : ℕ} (P
   pub scope_room : {c : Result ScopeCommand CommandError} → scope_command found (part i tape) ≡ c → i + scope_size c ≤ length tape
   scope_room e = omega (arith, scope_fits found (drop i tape) (seen e), length-drop i tape, P.inside)
 
-  pub scopes_on : (k : ℕ) {next : Bool} → scope_command found (part i tape) ≡ Ok (scopes.Scope k) → next ≡ (found || is_function k)
+  pub scopes_on : (k : ScopeKind) {next : Bool} → scope_command found (part i tape) ≡ Ok (scopes.Scope k) → next ≡ (found || is_function k)
       → Passed all (λ f l. report (scopes_at f text next l)) tape (i + 2)
   unfolding scopes_at scopes_by
   scopes_on k {next} e h =
@@ -114,13 +117,13 @@ closed_whole t (stop f q) = refl
 
 module _ (text t : List ℕ) where
   -- by the command at its front
-  root_told : (c : Result ℕ CommandError) → heritage_command t ≡ c
+  root_told : (c : Result Heritage CommandError) → heritage_command t ≡ c
       → checked (read_root text t) ≡ closed (length t) (report (root_by t c (from 2 (scopes_at (suc (length t)) text false (drop 2 t)))))
   unfolding read_root
   root_told c e = rw e (closed_whole t _)
 
   -- a heritage stands there, and the scopes behind it were scanned as s
-  module _ {h : ℕ} {q s : Scan} (e : heritage_command t ≡ Ok h) (R : Reports (λ f l. report (scopes_at f text false l)) (part 2 t) q) (i : s ≡ shifted 2 q) where
+  module _ {h : Heritage} {q s : Scan} (e : heritage_command t ≡ Ok h) (R : Reports (λ f l. report (scopes_at f text false l)) (part 2 t) q) (i : s ≡ shifted 2 q) where
     root_heritage : closed (length t) s ≡ checked (read_root text t)
     unfolding root_by
     root_heritage =

@@ -22,10 +22,11 @@ use Rattle.definitions.specs.Tree.{unnamed, prop_name, Attributes, attribute, na
 use Rattle.definitions.specs.Tree.{empty_child, spread_child, node_child}
 use Rattle.definitions.specs.Reading.{lettered, opened, members_by, properties_by, attributes_by, children_by, members_at, properties_at, element_at}
 use Rattle.definitions.specs.Reading.{fragment_at, attributes_at, value_at, children_at}
-use Rattle.root_check.specs.declared.check.TapeError.{TapeError}
+use Rattle.tape.specs.declared.refusal.TapeError.{TapeError}
 use Rattle.root_check.specs.declared.check.Step.{Step}
 use Rattle.root_check.specs.declared.check.Step.TheVariants as step
-use Rattle.root_check.specs.Checking.{fault_at, Scan, report, taken, shifted, sequel, Within, Reports, Opens, going, stepped, Moves, Steps}
+use Rattle.tape.specs.Refusals.{fault_at}
+use Rattle.root_check.specs.Checking.{Scan, report, taken, shifted, sequel, Within, Reports, Opens, going, stepped, Moves, Steps}
 use Rattle.root_check.proofs.Scans.{stepped_going, report_from, report_map, report_then, spanned_then, named_then, lettered_then}
 use Rattle.root_check.proofs.Readings.{reads, reads_within, named_reads, spanned_reads, lettered_reads, unread_within, properties_reads, value_reads}
 use Rattle.root_check.proofs.Behind.{part, reports_part, within_good, within_bad, shifted_within, behind_within}

@@ -9,3 +9,4 @@ pub mod Codes
 pub mod Walking
 pub mod Done
 pub mod Literals
+pub mod Scanned

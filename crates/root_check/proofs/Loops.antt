@@ -8,10 +8,11 @@ use lib.ListN.{length, take, drop, length-drop}
 use lib.Seq.{drop-drop}
 use Rattle.std.specs.Prelude.{Result, Ok, Err}
 use Rattle.text.proofs.Lists.{tail_part}
-use Rattle.root_check.specs.declared.check.TapeError.{TapeError}
+use Rattle.tape.specs.declared.refusal.TapeError.{TapeError}
 use Rattle.root_check.specs.declared.check.Step.{Step}
 use Rattle.root_check.specs.declared.check.Step.TheVariants as step
-use Rattle.root_check.specs.Checking.{fault_at, Scan, shifted, stepped, Moves, Steps}
+use Rattle.tape.specs.Refusals.{fault_at}
+use Rattle.root_check.specs.Checking.{Scan, shifted, stepped, Moves, Steps}
 use Rattle.root_check.proofs.Scans.{shifted_zero, shifted_shifted}
 
 -- i bytes are passed: `whole`, which is asked for any bound of the turns, is what is left, with as many turns as that needs

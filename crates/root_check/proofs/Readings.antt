@@ -24,6 +24,8 @@ use Rattle.tape.specs.declared.refusal.Fault.TheVariants as fault
 use Rattle.commands.specs.declared.error.CommandError.{CommandError}
 use Rattle.commands.specs.declared.error.CommandError.TheVariants as command
 use Rattle.commands.specs.declared.root.Place.{Place}
+use Rattle.commands.specs.declared.root.Heritage.{Heritage}
+use Rattle.commands.specs.declared.root.ScopeKind.{ScopeKind}
 use Rattle.commands.specs.declared.root.ScopeCommand.{ScopeCommand}
 use Rattle.commands.specs.declared.root.ScopeCommand.TheVariants as scopes
 use Rattle.commands.specs.declared.root.NameCommand.{NameCommand}
@@ -314,9 +316,9 @@ abbrev RootInOrder : List ℕ → Root → Type 0
 RootInOrder text r = InOrder text r.node
 
 module _ (text t : List ℕ) where
-  scopes_by_command : (found : Bool) (c : Result ScopeCommand CommandError) (whole bare : Place → Parsed Node) (next : ℕ → Parsed Scoped) → scope_command found t ≡ c
+  scopes_by_command : (found : Bool) (c : Result ScopeCommand CommandError) (whole bare : Place → Parsed Node) (next : ScopeKind → Parsed Scoped) → scope_command found t ≡ c
       → Inner text t whole → Inner text t bare
-      → ((k : ℕ) → 2 ≤ length t → Reads (ScopedInOrder text) (2 + 1) (length t) (next k))
+      → ((k : ScopeKind) → 2 ≤ length t → Reads (ScopedInOrder text) (2 + 1) (length t) (next k))
       → Reads (ScopedInOrder text) 1 (length t) (scopes_by text t c whole bare next)
   unfolding scopes_by
   scopes_by_command found (Err x) whole bare next e w b f = unread t x
@@ -327,7 +329,7 @@ module _ (text t : List ℕ) where
   scopes_by_command found (Ok (scopes.Fragment p)) whole bare next e w b f =
       map_reads unscoped (λ n h. h) (less 1 (omega arith) (opened_reads 0 p t (scope_fits found t e) (b p)))
 
-  root_by_command : (c : Result ℕ CommandError) (rest : Parsed Scoped) → heritage_command t ≡ c
+  root_by_command : (c : Result Heritage CommandError) (rest : Parsed Scoped) → heritage_command t ≡ c
       → (2 ≤ length t → Reads (ScopedInOrder text) (2 + 1) (length t) rest) → Reads (RootInOrder text) 1 (length t) (root_by t c rest)
   unfolding root_by
   root_by_command (Err x) rest e f = unread t x

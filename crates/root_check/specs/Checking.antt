@@ -1,22 +1,12 @@
 -- What a check of a root tape reports of the definition's reading: how much was taken, or the fault; and how such reports are put together.
 use Rattle.std.specs.Prelude.{ℕ, suc, ◌+◌, ◌≤◌, ◌<◌, ◌≡◌, cond, ◌||◌, List, length, drop, eqb, leb, ltb, Err, Ok, Result, ⊤}
-use Rattle.tape.specs.declared.refusal.Fault.{Fault}
 use Rattle.tape.specs.declared.refusal.Fault.TheVariants as fault
-use Rattle.commands.specs.declared.error.CommandError.{CommandError}
+use Rattle.tape.specs.declared.refusal.TapeError.{TapeError}
+use Rattle.tape.specs.Refusals.{fault_at}
 use Rattle.commands.specs.declared.root.Place.{Place}
-use Rattle.definitions.specs.Judging.{Parsed, done, stop, error_place}
-use Rattle.root_check.specs.declared.check.TapeError.{TapeError}
+use Rattle.definitions.specs.Judging.{Parsed, done, stop}
 use Rattle.root_check.specs.declared.check.Step.{Step}
 use Rattle.root_check.specs.declared.check.Step.TheVariants as step
-
--- a fault, and the place that is told with it
-abbrev pub fault_at : Fault → ℕ → TapeError
-fault_at f p = record { fault = f; place = p }
-
--- a command at the front of t, or where it is told that it can't be read
-unfoldable pub legible : {C : Type 0} → List ℕ → Result C CommandError → Result C TapeError
-legible t (Ok c) = Ok c
-legible t (Err e) = Err (fault_at fault.Grammar (error_place t e))
 
 -- ---- the whole tape
 

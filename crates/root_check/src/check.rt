@@ -5,42 +5,23 @@
 // children), and a whole check less than 23,000.
 ghost use Rattle.std.specs.Prelude.{◌≡◌, false, ◌||◌, Err, List, ℕ, suc, ◌+◌, ◌≤◌, ◌<◌, ◌^◌, length, drop};
 ghost use Rattle.text.specs.Spans.{bounds_of};
+ghost use Rattle.tape.specs.Refusals.{fault_at};
 ghost use Rattle.commands.specs.declared.root.Place as place;
 ghost use Rattle.definitions.specs.Judging.{spanned, named, worse};
 ghost use Rattle.definitions.specs.Reading.{lettered, opened, members_at, name_at, properties_at, element_at, fragment_at, attributes_at, value_at, children_at, is_function, scopes_at, read_root};
-ghost use Rattle.root_check.specs.Checking.{fault_at, legible, checked, report, taken, shifted, sequel, reach, level, position, Reports, Opens, going, Moves, Scan, Steps};
+ghost use Rattle.root_check.specs.Checking.{checked, report, taken, shifted, sequel, reach, level, position, Reports, Opens, going, Moves, Scan, Steps};
 
-use commands::error::CommandError;
 use commands::root::{
     AttributeCommand, ChildCommand, NameCommand, Place, PropertyCommand, ScopeCommand,
     ValueCommand, attribute_command_at, child_command_at, heritage_command_at, member_command_at,
     name_command_at, property_command_at, scope_command_at, value_command_at,
 };
 use commands::sizes;
+use definitions::reading::legible;
 use references::has_reference;
 use tape::refusal::Fault;
+pub use tape::refusal::TapeError;
 use text::spans::{Bounds, Span, part, span_bounds};
-
-// A fault, and the place that is told with it (docs/TAPES.md, "Refusals"). The check of a part counts the place from the part's front.
-// The place stands first, where an `Ok` has its size: told from further on both grow alike.
-#[derive(Clone, Copy)]
-pub struct TapeError {
-    pub place: usize,
-    pub fault: Fault,
-}
-
-impl TapeError {
-    // The same, counted from `at` bytes before.
-    fn behind(self, at: usize) -> TapeError
-        requires { at + self.place < 2 ^ 64 }
-        ensures { result ≡ fault_at self.fault (at + self.place) }
-    {
-        TapeError {
-            place: at + self.place,
-            ..self
-        }
-    }
-}
 
 // What stands first in a list: one that takes so many bytes, with more behind it; or the list's end, with so many bytes.
 #[derive(Clone, Copy)]
@@ -56,20 +37,6 @@ fn refuse<T>(fault: Fault) -> Result<T, TapeError>
     ensures { result ≡ Err (fault_at fault 0) }
 {
     Err(TapeError { fault, place: 0 })
-}
-
-// A command at the front of the tape: where it can't be read, told behind what is left if it is cut off, and else at the command.
-#[tactic(auto, unfolding(crate::specs::Checking::legible))]
-fn legible<C>(tape: &[u8], command: Result<C, CommandError>) -> Result<C, TapeError>
-    ensures { result ≡ legible tape.now command }
-{
-    command.map_err(|error| TapeError {
-        fault: Fault::Grammar,
-        place: match error {
-            CommandError::Cut => tape.len(),
-            CommandError::Wrong | CommandError::Bad => 0,
-        },
-    })
 }
 
 // A scan of the part that begins at `at`, told from where the whole begins.
@@ -90,6 +57,8 @@ fn onward(scan: Result<usize, TapeError>) -> Result<Step, TapeError>
 }
 
 // ---- what can be wrong at a command of n bytes, but for its grammar
+//
+// kept: each answers the n bytes, as `taken n` in its contract does: without them each arm that calls one would be two statements and not one call.
 
 // Its span, which may be empty.
 #[tactic(auto, unfolding(crate::specs::Checking::report, definitions::specs::Judging::named, definitions::specs::Judging::spanned))]
@@ -183,6 +152,7 @@ fn check_place(depth: usize, place: Place) -> Result<usize, TapeError>
 // ---- lists
 
 // A list by what stands first in it, which `step` tells of any part of the tape.
+// kept: a fault is told by its place, so the place is counted, and not what is left.
 fn check_list<F: Fn(&[u8]) -> Result<Step, TapeError>>(
     tape: &[u8],
     step: F,
@@ -266,8 +236,8 @@ fn check_properties(text: &[u8], tape: &[u8]) -> Result<usize, TapeError>
 
 // ---- elements and fragments: `depth` of them are open
 //
-// kept: the text, the tape and the depth go together as in the definition (`attributes_at f text d t`), but each call has another tape or depth: a struct of them would be
-// made at every call, and taken apart in the next.
+// kept: the text, the tape and the depth go together as in the definition (`attributes_at f text d t`), but the calls that go on do so with another tape or depth: with a struct
+// `check_children(text, &tape[v..], depth + 1)` would be `Part { tape: &part.tape[v..], depth: part.depth + 1, ..part }.check_children()`.
 
 // An element whose 10 stands at the front.
 #[cycle(nodes)]
@@ -330,6 +300,7 @@ fn attribute_step(text: &[u8], tape: &[u8], depth: usize) -> Result<Step, TapeEr
     }
 }
 
+// kept: this and `check_children` are one call of `check_list`, as `check_members` and `check_properties`: they differ in the step, which is the argument.
 #[cycle(nodes)]
 fn check_attributes(text: &[u8], tape: &[u8], depth: usize) -> Result<usize, TapeError>
     ensures { Reports (λ f t. report (attributes_at f text.now depth t)) tape.now result }
@@ -396,21 +367,19 @@ fn check_children(text: &[u8], tape: &[u8], depth: usize) -> Result<usize, TapeE
 
 // ---- the root
 
-// The kinds of scopes from here on, constructors and other functions, have a `this` of their own.
-const FIRST_FUNCTION: u8 = 2;
-
 // The scopes, and the element or fragment that stands in them.
 fn check_scopes(text: &[u8], tape: &[u8]) -> Result<usize, TapeError>
     ensures { Reports (λ f t. report (scopes_at f text.now false t)) tape.now result }
 {
-    // whether a scope of kind 2 or 3 has come
+    // whether a constructor or another function has come
     let mut found = false;
+    // kept: a fault is told by its place, so the place is counted, and not what is left
     let mut i: usize = 0;
     loop {
         let rest = &tape[i..];
         match legible(rest, scope_command_at(found, rest)) {
             Ok(ScopeCommand::Scope(kind)) => {
-                found |= FIRST_FUNCTION <= kind;
+                found |= kind.is_function();
                 i += sizes::WITH_KIND;
             }
             Ok(ScopeCommand::Element(p)) => return further(i, open_element(text, rest, 0, p)),

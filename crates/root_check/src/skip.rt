@@ -11,17 +11,14 @@ use commands::sizes::command_size;
 use commands::{codes, sizes};
 
 // How many bytes the command with this code takes, if it stands within an element or a fragment.
-#[tactic(auto, unfolding(crate::specs::Skipping::size_within))]
+#[tactic(auto, using(commands::proofs::Table::size_or_none), unfolding(crate::specs::Skipping::size_within))]
 fn size_within(code: u8) -> Option<usize>
     ensures { result ≡ size_within code }
 {
     if code < codes::ELEMENT {
         return None;
     }
-    match command_size(code) {
-        0 => None,
-        size => Some(size),
-    }
+    command_size(code)
 }
 
 // How many elements and fragments are open behind a command, with `levels` of them before it.
@@ -64,6 +61,7 @@ pub fn skip_value(tape: &[u8]) -> usize
 }
 
 // How many bytes the properties at the front of the tape take, with the 35 that ends them, if they read; otherwise those up to where none stands.
+// kept: how far is what is told, so it is counted: of what is left it would be a difference at both returns.
 pub fn skip_properties(tape: &[u8]) -> usize
     ensures within { result ≤ length tape.now }
     ensures read { (f : ℕ) (text : List ℕ) (ps : List Property) (u : ℕ) → length tape.now < f →

@@ -33,7 +33,7 @@ use Rattle.definitions.proofs.Verdicts.{past_read, accepted_same}
 use Rattle.definitions.proofs.Openings.{opening_told, options_borne}
 use Rattle.comments.specs.Tapes.{comments_of}
 use Rattle.comments.proofs.Tapes.{comments_front}
-use Rattle.settings.specs.declared.opening.TapeError.{TapeError}
+use Rattle.tape.specs.declared.refusal.TapeError.{TapeError}
 use Rattle.settings.specs.Tapes.{options_before, checked, span_of, with_option, spanned_by, next_by, judged_options, judged_by, behind_flags, opened_tape, Borne}
 
 -- ---- what stands at the front of a tape where a command was read

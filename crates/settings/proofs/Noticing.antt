@@ -8,7 +8,7 @@ use Rattle.std.specs.Prelude.{Err, Ok, Option, Result}
 use Rattle.text.specs.declared.spans.Span.{Span}
 use mathlib.Core.Path.{◌≡◌, refl, sym, ap, ◌∙◌}
 use mathlib.Core.Bool.{true}
-use mathlib.Core.List.{List, [], ◌∷◌, ◌++◌, append-nil}
+use mathlib.Core.List.{List, ◌∷◌, ◌++◌, append-nil}
 use Prim.Native.Nat.{ℕ, ◌+◌, ◌≤◌, ◌<◌, ◌^◌}
 use native.Mathlib.Omega.{arith}
 use lib.ListN.{length, length-append}
@@ -39,11 +39,10 @@ spanned_under mode text p {r} h b e = go r e
     go (Ok f) e = omega arith
     go (Err q) e = omega (arith, under_within mode text p b q (sym e))
 
-pub wrote_part : (p : InvalidPart) {o o₁ o₂ : List ℕ} {at r r₂ : ℕ} → length o ≤ 2 ^ 63 → Wrote o o₁ at r (0xc2 ∷ [])
-    → Wrote o₁ o₂ r r₂ (span_bytes (record { start = p.place; len = p.len }))
-    → Wrote o o₂ at r₂ (notice_bytes (pragma_notice (Err p)))
+pub wrote_part : (p : InvalidPart) {o o' : List ℕ} {at r : ℕ} → Wrote o o' at r (0xc2 ∷ span_bytes (record { start = p.place; len = p.len }))
+    → Wrote o o' at r (notice_bytes (pragma_notice (Err p)))
 unfolding pragma_notice notice_bytes notice_bytes_of
-wrote_part p short w v = wrote_as (sym (append-nil (0xc2 ∷ span_bytes (record { start = p.place; len = p.len })))) (wrote_then short w v)
+wrote_part p w = wrote_as (sym (append-nil (0xc2 ∷ span_bytes (record { start = p.place; len = p.len })))) w
 
 -- a search under the options' mode that came to x
 pub found_under : {m k : Mode} {f x : Option ℕ} (g : Option ℕ) → m ≡ k → f ≡ if_classic m g → f ≡ x → if_classic k g ≡ x

@@ -7,9 +7,10 @@ use Rattle.text.specs.Spans.{bounds_of}
 use Rattle.commands.specs.declared.error.CommandError.{CommandError}
 use Rattle.commands.specs.declared.opening.OptionCommand.{OptionCommand}
 use Rattle.commands.specs.declared.opening.OptionCommand.TheVariants as option
-use Rattle.tape.specs.declared.refusal.Fault.{Fault}
 use Rattle.tape.specs.declared.refusal.Fault.TheVariants.{Grammar, Outside, Cuts}
+use Rattle.tape.specs.declared.refusal.TapeError.{TapeError}
 use Rattle.tape.specs.declared.refusal.Refusal.{Refusal}
+use Rattle.tape.specs.Refusals.{fault_at}
 use Rattle.tape.specs.declared.refusal.Refusal.TheVariants as refusal
 use Rattle.definitions.specs.declared.options.Form.{Form}
 use Rattle.definitions.specs.declared.options.InvalidPart.{InvalidPart}
@@ -24,10 +25,6 @@ use Rattle.definitions.specs.Opening.{Opening, bare, options_from, read_opening,
 use Rattle.definitions.specs.States.{borne_out}
 use Rattle.definitions.specs.Entries.{no_record, no_job, OpeningOutcome}
 use Rattle.comments.specs.Tapes.{comments_of}
-use Rattle.settings.specs.declared.opening.TapeError.{TapeError}
-
-abbrev pub fault_at : Fault → ℕ → TapeError
-fault_at f i = record { fault = f; place = i }
 
 -- the options before the comments
 unfoldable pub options_before : Opening → Options

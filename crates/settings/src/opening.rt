@@ -1,56 +1,32 @@
 // Opening a job. Opening tape: 61 flags u16; then at most one each, in this order, of 62 pragma S, 63 pragmaFrag S, 64 importSource S;
 // then any number of 60 comment S.
-ghost use Rattle.std.specs.Prelude.{◌≡◌, ◌+◌, ◌≤◌, ◌<◌, ◌^◌, length};
+ghost use Rattle.std.specs.Prelude.{◌≡◌, ◌≤◌, length, None};
 ghost use Rattle.commands.specs.Opening.{option_command};
 ghost use Rattle.text.specs.Spans.{bounds_of};
 ghost use Rattle.text.specs.Utf8.{first_ill};
 ghost use Rattle.tape.specs.Targets.{Wrote};
-ghost use Rattle.definitions.specs.Judging.{error_place};
 ghost use Rattle.definitions.specs.Calls.{notice_bytes};
 ghost use Rattle.definitions.specs.Opening.{bare, read_opening, settings_of, pragma_notice, notices_fitted, judge_options, judge_opening};
 ghost use Rattle.definitions.specs.Entries.{opened_by, opened};
-ghost use Rattle.settings.specs.Tapes.{fault_at, options_before, checked, span_of, with_option, next_by, judged_options, judged_by, behind_flags, state_with, answered_by, opened_tape, Borne, Spanned, Opened};
+ghost use Rattle.settings.specs.Tapes.{options_before, checked, span_of, with_option, next_by, judged_options, judged_by, behind_flags, state_with, answered_by, opened_tape, Borne, Spanned, Opened};
 
 use crate::jsx_impl::{mode_of, new};
-use commands::error::CommandError;
 use commands::opening::{OptionCommand, flags_command_at, option_command_at};
 use commands::{codes, sizes};
 use comments::update_options_with_comments;
 use definitions::options::{Form, InvalidPart, Options, Settings};
+use definitions::reading::legible;
 use definitions::record_tape::INVALID_PRAGMA;
-use definitions::records::{Import, Record};
-use definitions::state::{State, Stepped};
+use definitions::state::{NO_RECORDS, State, Stepped};
 use option_values::{conform, flags_of};
 use pragma::{over_ascii_under, pragma_under};
-use tape::limits::MAX_LENGTH;
-use tape::refusal::{Fault, Refusal};
-use tape::target::{put, put_span};
+use tape::limits::{MAX_BINDINGS, MAX_LENGTH};
+use tape::refusal::{Fault, Refusal, TapeError};
+use tape::target::Encode;
 use text::spans::{Bounds, Span, span_bounds};
 use text::utf8::first_ill_formed;
 
-// A fault, and the place that is told with it, counted from the front of what was read.
-#[derive(Clone, Copy)]
-struct TapeError {
-    fault: Fault,
-    place: usize,
-}
-
 // ---- reading the tape
-
-// A command that can't be read.
-#[tactic(auto, unfolding(definitions::specs::Judging::error_place))]
-fn unreadable(tape: &[u8], error: CommandError) -> TapeError
-    ensures { result ≡ fault_at Fault.Grammar (error_place tape.now error) }
-{
-    let place = match error {
-        CommandError::Wrong | CommandError::Bad => 0,
-        CommandError::Cut => tape.len(),
-    };
-    TapeError {
-        fault: Fault::Grammar,
-        place,
-    }
-}
 
 // A span may be empty here.
 #[tactic(auto, unfolding(crate::specs::Tapes::checked))]
@@ -115,7 +91,7 @@ fn with_option(options: Options, command: OptionCommand) -> (u8, Options)
 
 // What the command at the front of a tape comes to; none at the tape's end.
 // kept: the last option is told by its byte, as `option_command_at` takes it: an enum would ask more of that function's callers
-#[tactic(auto, unfolding(crate::specs::Tapes::next_by, crate::specs::Tapes::spanned_by, crate::specs::Tapes::checked))]
+#[tactic(auto, unfolding(definitions::specs::Judging::legible, crate::specs::Tapes::next_by, crate::specs::Tapes::spanned_by, crate::specs::Tapes::checked))]
 fn next_command(
     text: &[u8],
     last: u8,
@@ -124,10 +100,8 @@ fn next_command(
 ) -> Result<Option<(u8, Options)>, TapeError>
     ensures { result ≡ next_by text.now tape.now options (option_command last tape.now) }
 {
-    let command = match option_command_at(last, tape) {
-        Ok(Some(command)) => command,
-        Ok(None) => return Ok(None),
-        Err(error) => return Err(unreadable(tape, error)),
+    let Some(command) = legible(tape, option_command_at(last, tape))? else {
+        return Ok(None);
     };
     check_span(text, span_of(command))?;
     Ok(Some(with_option(options, command)))
@@ -140,16 +114,12 @@ fn bare_options(n: u16) -> Options
 {
     Options {
         flags: conform(flags_of(n)),
-        pragma: None,
-        pragma_frag: None,
-        import_source: None,
-        ts_pragma: None,
-        ts_pragma_frag: None,
+        ..Options::default()
     }
 }
 
 // The options that the commands behind the flags n give, before the comments.
-// kept: no iterator gives the commands: each is read by the last option before it, and a fault is told by its place
+// kept: no iterator gives the commands: each is read by the last option before it. A fault is told by its place, so the place is counted, and not what is left
 #[tactic(auto, using(text::proofs::Lists::tail_part, crate::proofs::Commands::begin, crate::proofs::Commands::fault_inside, crate::proofs::Commands::at_fault), unfolding(crate::specs::Tapes::judged_by))]
 fn read_options(text: &[u8], n: u16, tape: &[u8]) -> Result<Options, TapeError>
     requires { 3 ≤ length tape.now }
@@ -166,27 +136,23 @@ fn read_options(text: &[u8], n: u16, tape: &[u8]) -> Result<Options, TapeError>
                 options = behind;
                 front += sizes::WITH_SPAN;
             }
-            Err(TapeError { fault, place }) => return Err(TapeError {
-                fault,
-                place: front + place,
-            }),
+            Err(error) => return Err(error.behind(front)),
         }
     }
 }
 
-#[tactic(auto, unfolding(crate::specs::Tapes::judged_options, crate::specs::Tapes::judged_by, definitions::specs::Opening::read_opening, definitions::specs::Opening::opening_by, definitions::specs::Judging::read))]
+#[tactic(auto, unfolding(definitions::specs::Judging::legible, crate::specs::Tapes::judged_options, crate::specs::Tapes::judged_by, definitions::specs::Opening::read_opening, definitions::specs::Opening::opening_by, definitions::specs::Judging::read))]
 fn read_opening(text: &[u8], tape: &[u8]) -> Result<Options, TapeError>
     ensures { judged_options text.now (read_opening text.now tape.now) ≡ judged_by text.now tape.now result }
 {
-    match flags_command_at(tape) {
-        Ok(n) => read_options(text, n, tape),
-        Err(error) => Err(unreadable(tape, error)),
-    }
+    let n = legible(tape, flags_command_at(tape))?;
+    read_options(text, n, tape)
 }
 
 // ---- the notices
 
 // How many bytes a pragma's notice takes.
+// kept: two cases of a result; `map_or_else` would say the same with two closures.
 #[tactic(auto, unfolding(definitions::specs::Opening::pragma_notice, definitions::specs::Calls::notice_bytes, definitions::specs::Calls::notice_bytes_of))]
 fn notice_size(read: Result<Option<Form>, InvalidPart>) -> usize
     ensures { result ≡ length (notice_bytes (pragma_notice read)) }
@@ -197,68 +163,63 @@ fn notice_size(read: Result<Option<Form>, InvalidPart>) -> usize
     }
 }
 
-#[tactic(auto, using(tape::proofs::Targets::wrote_nothing), unfolding(crate::specs::Tapes::Spanned, definitions::specs::Opening::pragma_notice, definitions::specs::Calls::notice_bytes))]
+#[tactic(auto, unfolding(crate::specs::Tapes::Spanned, definitions::specs::Opening::pragma_notice, definitions::specs::Calls::notice_bytes))]
 fn put_notice(notices: &mut [u8], at: usize, read: Result<Option<Form>, InvalidPart>) -> usize
-    requires at_bound { at ≤ 2 ^ 63 }
-    requires spanned { Spanned read }
+    requires { Spanned read }
     ensures { Wrote notices.old notices.new at result (notice_bytes (pragma_notice read)) }
 {
     match read {
-        Ok(_) => at,
+        Ok(_) => ().encode(notices, at),
         Err(InvalidPart { place, len }) => {
-            let span = Span {
-                start: place as u16,
-                len: len as u16,
-            };
-            let behind = put(notices, at, INVALID_PRAGMA);
-            put_span(notices, behind, span)
+            (INVALID_PRAGMA, Span::new(place, len)).encode(notices, at)
         }
     }
 }
 
 // ---- the answer
 
-// A job with these options, none of whose pragmas has a byte over 7F: its notices are written where they fit.
-#[tactic(auto, using(crate::proofs::Noticing::spanned_under, tape::proofs::Targets::wrote_small, definitions::proofs::OpeningNotices::notice_few))]
-fn open_noticed(
-    text: &[u8],
+// A job once its tape was read: the text, and options whose pragmas it bears out.
+#[derive(Clone, Copy)]
+struct Job<'a> {
+    text: &'a [u8],
     options: Options,
-    notices: &mut [u8],
-) -> Result<(Settings, usize), Refusal>
-    requires text_len_bound { length text.now ≤ 65535 }
-    requires borne { Borne text.now options }
-    ensures { Opened (opened_by text.now notices.old (notices_fitted text.now (length notices.old) (settings_of text.now options))) result notices.new }
-{
-    let mode = mode_of(options.flags);
-    let read = pragma_under(mode, text, options.pragma);
-    let read_frag = pragma_under(mode, text, options.pragma_frag);
-    let size = notice_size(read) + notice_size(read_frag);
-    if notices.len() < size {
-        return Err(Refusal::NoticeSpace(size));
-    }
-    let behind = put_notice(notices, 0, read);
-    put_notice(notices, behind, read_frag);
-    Ok((new(options, read, read_frag), size))
+    ghost short: { length text.now ≤ 65535 },
+    ghost borne: { Borne text.now options },
 }
 
-#[tactic(auto, using(crate::proofs::Noticing::found_under), unfolding(definitions::specs::Opening::pragmas_checked, definitions::specs::Opening::settings_of, definitions::specs::Judging::refuse_at, definitions::specs::Entries::opened_by, crate::specs::Tapes::answered_by))]
-fn open_options(
-    text: &[u8],
-    options: Options,
-    notices: &mut [u8],
-) -> Result<(Settings, usize), Refusal>
-    requires text_len_bound { length text.now ≤ 65535 }
-    requires borne { Borne text.now options }
-    ensures { Opened (opened_by text.now notices.old (judge_options text.now (length notices.old) options)) result notices.new }
-{
-    let mode = mode_of(options.flags);
-    if let Some(place) = over_ascii_under(mode, text, options.pragma) {
-        return Err(Refusal::PragmaByte(place));
+impl<'a> Job<'a> {
+    // Where none of the pragmas has a byte over 7F: the notices are written where they fit.
+    #[tactic(auto, using(crate::proofs::Noticing::spanned_under, definitions::proofs::OpeningNotices::notice_few))]
+    fn open_noticed(self, notices: &mut [u8]) -> Result<(Settings, usize), Refusal>
+        ensures { Opened (opened_by self.entry.text.now notices.old (notices_fitted self.entry.text.now (length notices.old) (settings_of self.entry.text.now self.entry.options))) result notices.new }
+    {
+        let Job { text, options } = self;
+        let mode = mode_of(options.flags);
+        let read = pragma_under(mode, text, options.pragma);
+        let read_frag = pragma_under(mode, text, options.pragma_frag);
+        let size = notice_size(read) + notice_size(read_frag);
+        if notices.len() < size {
+            return Err(Refusal::NoticeSpace(size));
+        }
+        let behind = put_notice(notices, 0, read);
+        put_notice(notices, behind, read_frag);
+        Ok((new(options, read, read_frag), size))
     }
-    if let Some(place) = over_ascii_under(mode, text, options.pragma_frag) {
-        return Err(Refusal::PragmaByte(place));
+
+    #[tactic(auto, using(crate::proofs::Noticing::found_under), unfolding(definitions::specs::Opening::pragmas_checked, definitions::specs::Opening::settings_of, definitions::specs::Judging::refuse_at, definitions::specs::Entries::opened_by, crate::specs::Tapes::answered_by))]
+    fn open(self, notices: &mut [u8]) -> Result<(Settings, usize), Refusal>
+        ensures { Opened (opened_by self.entry.text.now notices.old (judge_options self.entry.text.now (length notices.old) self.entry.options)) result notices.new }
+    {
+        let Job { text, options } = self;
+        let mode = mode_of(options.flags);
+        if let Some(place) = over_ascii_under(mode, text, options.pragma) {
+            return Err(Refusal::PragmaByte(place));
+        }
+        if let Some(place) = over_ascii_under(mode, text, options.pragma_frag) {
+            return Err(Refusal::PragmaByte(place));
+        }
+        self.open_noticed(notices)
     }
-    open_noticed(text, options, notices)
 }
 
 // A text that is not too long and is UTF-8.
@@ -268,14 +229,8 @@ fn open_text(text: &[u8], tape: &[u8], notices: &mut [u8]) -> Result<(Settings, 
     requires well_formed { first_ill text.now ≡ None }
     ensures { Opened (opened_by text.now notices.old (opened_tape text.now tape.now (length notices.old))) result notices.new }
 {
-    match read_opening(text, tape) {
-        Ok(options) => open_options(
-            text,
-            update_options_with_comments(text, options, tape),
-            notices,
-        ),
-        Err(TapeError { fault, place }) => Err(Refusal::Tape(fault, place)),
-    }
+    let options = update_options_with_comments(text, read_opening(text, tape)?, tape);
+    Job { text, options }.open(notices)
 }
 
 // The settings of a job and its notice fill.
@@ -283,10 +238,8 @@ fn open_text(text: &[u8], tape: &[u8], notices: &mut [u8]) -> Result<(Settings, 
 fn open(text: &[u8], tape: &[u8], notices: &mut [u8]) -> Result<(Settings, usize), Refusal>
     ensures { Opened (opened text.now tape.now notices.old) result notices.new }
 {
-    if MAX_LENGTH < text.len() {
-        return Err(Refusal::TooLong);
-    }
-    if MAX_LENGTH < tape.len() {
+    // kept: store's `judge_state` has these tests too, but here the tape's length is told before UTF-8
+    if MAX_LENGTH < text.len() || MAX_LENGTH < tape.len() {
         return Err(Refusal::TooLong);
     }
     if let Some(place) = first_ill_formed(text) {
@@ -300,10 +253,7 @@ fn no_records(settings: Settings, count: usize, notices: usize) -> State
 {
     State {
         settings,
-        records: [Record {
-            import: Import::FileName,
-            binding: 0,
-        }; 8],
+        records: NO_RECORDS,
         count,
         calls: 0,
         notices,
@@ -319,10 +269,14 @@ fn answered(opened: Result<(Settings, usize), Refusal>) -> Stepped
             answer: Ok(()),
             state: no_records(settings, 0, notices),
         },
-        // over 8 records: every entry refuses this state as forged
+        // too many records: every entry refuses this state as forged
         Err(why) => Stepped {
             answer: Err(why),
-            state: no_records(new(bare_options(0), Ok(None), Ok(None)), 9, 0),
+            state: no_records(
+                new(bare_options(0), Ok(None), Ok(None)),
+                MAX_BINDINGS + 1,
+                0,
+            ),
         },
     }
 }

@@ -8,7 +8,7 @@
 // where the jobs behind it come from. Behind them come jobs that are made by rule: long comments, and every pragma of up to four parts.
 #![tactic(auto)]
 
-ghost use Rattle.std.specs.Prelude.{◌≤◌, ◌<◌, length};
+ghost use Rattle.std.specs.Prelude.{◌≤◌, ◌<◌, length, IfSome};
 
 use commands::codes;
 use definitions::options::{Flags, Form, Mode, PragmaRoot, Settings};
@@ -21,32 +21,6 @@ use text::spans::{Span, part};
 
 // ---- reading
 
-// The front of a buffer into which so many bytes were put, as far as it has room.
-fn filled<'a>(buffer: &'a [u8], size: usize) -> &'a [u8] {
-    &buffer[..size.min(buffer.len())]
-}
-
-// A command with a span of the text.
-fn put_command(tape: &mut [u8], at: usize, command: u8, start: usize, end: usize) -> usize {
-    let span = Span {
-        start: (start % 65536) as u16,
-        len: (end.saturating_sub(start) % 65536) as u16,
-    };
-    let next = command.encode(tape, at);
-    span.encode(tape, next)
-}
-
-// The byte for the first letter of a command's word; 0 for any other, which no tape has.
-fn command_of(letter: Option<u8>) -> u8 {
-    match letter {
-        Some(b'c') => codes::COMMENT,
-        Some(b'p') => codes::PRAGMA,
-        Some(b'f') => codes::PRAGMA_FRAG,
-        Some(b'i') => codes::IMPORT_SOURCE,
-        _ => 0,
-    }
-}
-
 // What a hexadecimal digit counts; any other byte counts nothing.
 fn digit(b: u8) -> u8
     ensures { result < 16 }
@@ -58,12 +32,9 @@ fn digit(b: u8) -> u8
     }
 }
 
-// The byte of the two hexadecimal digits in front; 0 where they are cut off.
-fn byte_of(line: &[u8]) -> u8 {
-    match line {
-        [high, low, ..] => digit(*high) * 16 + digit(*low),
-        _ => 0,
-    }
+// The byte of two hexadecimal digits.
+fn byte_of(high: u8, low: u8) -> u8 {
+    digit(high) * 16 + digit(low)
 }
 
 // The byte that an escape stands for, by the letter behind the backslash.
@@ -78,32 +49,16 @@ fn escaped(letter: u8) -> u8 {
     }
 }
 
-// Copies what stands in quotes, of which the first is passed, and tells what stands behind the last, and where the text goes on.
-fn read_quoted<'a>(line: &'a [u8], text: &mut [u8], to: usize) -> (&'a [u8], usize)
-    ensures { length result.0.now ≤ length line.now }
+// The first byte that is meant in a part in quotes, and what stands behind it; none at the end of the part.
+fn unquoted<'a>(line: &'a [u8]) -> Option<(u8, &'a [u8])>
+    ensures { IfSome result (λ p. length p.1.now < length line.now) }
 {
-    let mut left = line;
-    let mut at = to;
-    while let [b, behind @ ..] = left {
-        left = behind;
-        match *b {
-            b'"' => break,
-            b'\\' => {
-                let [letter, behind @ ..] = left else {
-                    break;
-                };
-                left = behind;
-                if *letter == b'x' {
-                    at = byte_of(left).encode(text, at);
-                    left = &left[left.len().min(2)..];
-                } else {
-                    at = escaped(*letter).encode(text, at);
-                }
-            }
-            _ => at = (*b).encode(text, at),
-        }
+    match line {
+        [] | [b'"', ..] => None,
+        [b'\\', b'x', high, low, behind @ ..] => Some((byte_of(*high, *low), behind)),
+        [b'\\', letter, behind @ ..] => Some((escaped(*letter), behind)),
+        [b, behind @ ..] => Some((*b, behind)),
     }
-    (left, at)
 }
 
 // The size of the notice target, which the end of a line may say: room for all that an opening tells where it doesn't.
@@ -116,129 +71,153 @@ fn room_of(line: &[u8]) -> usize
     }
 }
 
-// How much of the text and of the tape a job takes.
-#[derive(Clone, Copy)]
-struct Job {
-    text: usize,
-    tape: usize,
+// The byte for the first letter of a command's word.
+// kept: the 0 for any other letter is put on the tape, where it is the wrong command that the job is refused for.
+fn command_of(letter: Option<u8>) -> u8 {
+    match letter {
+        Some(b'c') => codes::COMMENT,
+        Some(b'p') => codes::PRAGMA,
+        Some(b'f') => codes::PRAGMA_FRAG,
+        Some(b'i') => codes::IMPORT_SOURCE,
+        _ => 0,
+    }
 }
 
-// The flags, then a command for each part in quotes, by the first letter before it.
-fn read_job(flags: u16, line: &[u8], text: &mut [u8], tape: &mut [u8]) -> Job {
-    let mut out = put_flags(tape, flags);
-    let mut at = 0;
-    let mut letter = None;
-    let mut left = line;
-    while let [b, behind @ ..] = left {
-        left = behind;
-        if *b == b'"' {
-            let (behind, end) = read_quoted(left, text, at);
-            out = put_command(tape, out, command_of(letter), at, end);
-            at = end;
+// A job that is put together: its text and its tape, and how far each is filled, or would be if it had the room.
+// kept: programs take no memory from a heap, so that both are fixed arrays with their fills beside.
+#[derive(Drop)]
+struct Draft {
+    text: [u8; 65536],
+    text_end: usize,
+    tape: [u8; 4096],
+    tape_end: usize,
+}
+
+impl Draft {
+    // A job with these flags over an empty text, in place of the one before.
+    fn begin(&mut self, flags: u16) {
+        self.text_end = 0;
+        let next = codes::FLAGS.encode(&mut self.tape, 0);
+        self.tape_end = flags.encode(&mut self.tape, next);
+    }
+
+    fn write(&mut self, bytes: &[u8]) {
+        self.text_end = bytes.encode(&mut self.text, self.text_end);
+    }
+
+    // Writes what stands in quotes, of which the first is passed, and tells what stands behind the last.
+    fn write_quoted<'a>(&mut self, line: &'a [u8]) -> &'a [u8]
+        ensures { length result.now ≤ length line.now }
+    {
+        let mut left = line;
+        while let Some((b, behind)) = unquoted(left) {
+            self.write(&[b]);
             left = behind;
-            letter = None;
-        } else if letter.is_none() && *b != b' ' {
-            letter = Some(*b);
+        }
+        match left {
+            [_, behind @ ..] => behind,
+            [] => left,
         }
     }
-    Job {
-        text: at,
-        tape: out,
-    }
-}
 
-fn put_flags(tape: &mut [u8], flags: u16) -> usize {
-    let next = codes::FLAGS.encode(tape, 0);
-    flags.encode(tape, next)
+    // A command with the span of the text that begins at `start` and ends where the text does.
+    fn put_command(&mut self, command: u8, start: usize) {
+        let span = Span {
+            start: (start % 65536) as u16,
+            len: (self.text_end.saturating_sub(start) % 65536) as u16,
+        };
+        let next = command.encode(&mut self.tape, self.tape_end);
+        self.tape_end = span.encode(&mut self.tape, next);
+    }
+
+    // A command for each part in quotes, by the first letter before it.
+    fn put_parts(&mut self, line: &[u8]) {
+        let mut letter = None;
+        let mut left = line;
+        while let [b, behind @ ..] = left {
+            left = behind;
+            if *b == b'"' {
+                let start = self.text_end;
+                left = self.write_quoted(left);
+                self.put_command(command_of(letter), start);
+                letter = None;
+            } else if letter.is_none() && *b != b' ' {
+                letter = Some(*b);
+            }
+        }
+    }
+
+    fn text(&self) -> &[u8] {
+        &self.text[..self.text_end.min(65536)]
+    }
+
+    fn tape(&self) -> &[u8] {
+        &self.tape[..self.tape_end.min(4096)]
+    }
 }
 
 // ---- writing
 
-fn say(out: &mut impl Write, words: &[u8]) -> Result<()> {
-    out.write_all(words)
-}
-
-fn say_if(out: &mut impl Write, test: bool, words: &[u8]) -> Result<()> {
+fn say_if(out: &mut impl Write, test: bool, words: &str) -> Result<()> {
     if test {
-        return say(out, words);
+        write!(out, "{words}")?;
     }
     Ok(())
 }
 
 fn say_flags(out: &mut impl Write, f: Flags) -> Result<()> {
-    say_if(out, f.jsx_plugin, b", jsx_plugin")?;
-    say_if(out, f.self_plugin, b", self")?;
-    say_if(out, f.source_plugin, b", source")?;
-    say_if(out, f.development, b", development")?;
-    say_if(out, f.throw_if_namespace, b", throw_if_namespace")?;
-    say_if(out, f.pure, b", pure_option")
+    say_if(out, f.jsx_plugin, ", jsx_plugin")?;
+    say_if(out, f.self_plugin, ", self")?;
+    say_if(out, f.source_plugin, ", source")?;
+    say_if(out, f.development, ", development")?;
+    say_if(out, f.throw_if_namespace, ", throw_if_namespace")?;
+    say_if(out, f.pure, ", pure_option")
 }
 
-fn say_mode(out: &mut impl Write, m: Mode) -> Result<()> {
+fn mode_name(m: Mode) -> &'static str {
     match m {
-        Mode::Module => say(out, b"automatic module"),
-        Mode::Script => say(out, b"automatic script"),
-        Mode::Classic => say(out, b"classic"),
+        Mode::Module => "automatic module",
+        Mode::Script => "automatic script",
+        Mode::Classic => "classic",
     }
 }
 
 // A value that is present, in quotes.
-fn say_value(out: &mut impl Write, name: &[u8], text: &[u8], o: Option<Span>) -> Result<()> {
+fn say_value(out: &mut impl Write, name: &str, text: &[u8], o: Option<Span>) -> Result<()> {
     match o {
         None => Ok(()),
         Some(span) => {
-            say(out, name)?;
-            say(out, b" \"")?;
-            say(out, part(text, span))?;
-            say(out, b"\"")
+            write!(out, "; {name} \"")?;
+            out.write_all(part(text, span))?;
+            write!(out, "\"")
         }
     }
 }
 
-fn say_root(out: &mut impl Write, words: &[u8], tail: usize) -> Result<()> {
-    say(out, words)?;
-    write!(out, " + {tail}")
-}
-
 // The form of a pragma that is in force and valid.
 fn say_form(out: &mut impl Write, f: Form) -> Result<()> {
-    let root = f.root;
-    match root {
+    let tail = f.tail;
+    match f.root {
         PragmaRoot::Default => Ok(()),
-        PragmaRoot::This => say_root(out, b" = this", f.tail),
-        PragmaRoot::ImportMeta => say_root(out, b" = import.meta", f.tail),
-        PragmaRoot::Identifier => say_root(out, b" = identifier", f.tail),
+        PragmaRoot::This => write!(out, " = this + {tail}"),
+        PragmaRoot::ImportMeta => write!(out, " = import.meta + {tail}"),
+        PragmaRoot::Identifier => write!(out, " = identifier + {tail}"),
     }
 }
 
 fn say_settings(out: &mut impl Write, text: &[u8], s: Settings) -> Result<()> {
     let options = s.options;
-    let flags = options.flags;
-    let pragma = options.pragma;
-    let pragma_frag = options.pragma_frag;
-    let import_source = options.import_source;
-    let ts_pragma = options.ts_pragma;
-    let ts_pragma_frag = options.ts_pragma_frag;
-    let pragma_form = s.pragma;
-    let frag_form = s.pragma_frag;
-    let mode = s.mode;
-    say_mode(out, mode)?;
-    say_if(out, s.pure, b", pure")?;
-    say_flags(out, flags)?;
-    say_value(out, b"; pragma", text, pragma)?;
-    say_form(out, pragma_form)?;
-    say_value(out, b"; fragment", text, pragma_frag)?;
-    say_form(out, frag_form)?;
-    say_value(out, b"; importSource", text, import_source)?;
-    say_value(out, b"; TypeScript pragma", text, ts_pragma)?;
-    say_value(out, b"; TypeScript fragment", text, ts_pragma_frag)
-}
-
-fn say_bytes(out: &mut impl Write, bytes: &[u8]) -> Result<()> {
-    for b in bytes {
-        write!(out, " {b:02x}")?;
-    }
-    Ok(())
+    let name = mode_name(s.mode);
+    write!(out, "{name}")?;
+    say_if(out, s.pure, ", pure")?;
+    say_flags(out, options.flags)?;
+    say_value(out, "pragma", text, options.pragma)?;
+    say_form(out, s.pragma)?;
+    say_value(out, "fragment", text, options.pragma_frag)?;
+    say_form(out, s.pragma_frag)?;
+    say_value(out, "importSource", text, options.import_source)?;
+    say_value(out, "TypeScript pragma", text, options.ts_pragma)?;
+    say_value(out, "TypeScript fragment", text, options.ts_pragma_frag)
 }
 
 // The notices, where there are any.
@@ -246,11 +225,13 @@ fn say_notices(out: &mut impl Write, notices: &[u8], fill: usize) -> Result<()> 
     if fill == 0 {
         return Ok(());
     }
-    say(out, b"; notices")?;
-    match notices.get(..fill) {
-        Some(front) => say_bytes(out, front),
-        None => Ok(()),
+    write!(out, "; notices")?;
+    if let Some(front) = notices.get(..fill) {
+        for b in front {
+            write!(out, " {b:02x}")?;
+        }
     }
+    Ok(())
 }
 
 // Whether each byte from this place on is what it was at first.
@@ -258,17 +239,18 @@ fn is_left(target: &[u8], from: usize) -> bool {
     target.iter().skip(from).all(|b| *b == 0xee)
 }
 
-// Each byte of the notice target is EE at first.
-fn open_over(out: &mut impl Write, text: &[u8], tape: &[u8], notices: &mut [u8]) -> Result<()> {
-    say(out, b"    ")?;
-    let opened = open_job(text, tape, notices);
-    let answer = opened.answer;
+// Opens a job. Each byte of the notice target is EE at first.
+fn open(out: &mut impl Write, job: &Draft, room: usize) -> Result<()>
+    requires { room ≤ 16 }
+{
+    let text = job.text();
+    let mut space = [0xee; 16];
+    let notices = &mut space[..room];
+    let opened = open_job(text, job.tape(), notices);
     let state = opened.state;
-    match answer {
-        Ok(()) => {
-            let settings = state.settings;
-            say_settings(out, text, settings)?;
-        }
+    write!(out, "    ")?;
+    match opened.answer {
+        Ok(()) => say_settings(out, text, state.settings)?,
         Err(why) => {
             let number = why.number();
             let figure = why.figure();
@@ -276,41 +258,29 @@ fn open_over(out: &mut impl Write, text: &[u8], tape: &[u8], notices: &mut [u8])
         }
     }
     say_notices(out, notices, state.notices)?;
-    say_if(out, !is_left(notices, state.notices), b"; more was written")?;
-    say(out, b"\n")
-}
-
-fn open(out: &mut impl Write, text: &[u8], tape: &[u8]) -> Result<()> {
-    let mut notices = [0xee; 16];
-    open_over(out, text, tape, &mut notices)
+    say_if(out, !is_left(notices, state.notices), "; more was written")?;
+    writeln!(out)
 }
 
 // ---- the jobs
 
-fn run_line(out: &mut impl Write, line: &[u8], text: &mut [u8], tape: &mut [u8]) -> Result<()> {
+fn run_line(out: &mut impl Write, line: &[u8], job: &mut Draft) -> Result<()> {
     let [a, b, c, d, words @ ..] = line else {
         return Ok(());
     };
-    say(out, line)?;
-    say(out, b"\n")?;
+    out.write_all(line)?;
+    writeln!(out)?;
     if *a == b'#' {
         return Ok(());
     }
-    let flags = u16::from_be_bytes([byte_of(&[*a, *b]), byte_of(&[*c, *d])]);
-    let job = read_job(flags, words, text, tape);
-    let mut notices = [0xee; 16];
-    let room = room_of(line);
-    open_over(
-        out,
-        filled(text, job.text),
-        filled(tape, job.tape),
-        &mut notices[..room],
-    )
+    job.begin(u16::from_be_bytes([byte_of(*a, *b), byte_of(*c, *d)]));
+    job.put_parts(words);
+    open(out, job, room_of(line))
 }
 
-fn run_lines(out: &mut impl Write, input: &[u8], text: &mut [u8], tape: &mut [u8]) -> Result<()> {
+fn run_lines(out: &mut impl Write, input: &[u8], job: &mut Draft) -> Result<()> {
     for line in input.split(|b| *b == b'\n') {
-        run_line(out, line, text, tape)?;
+        run_line(out, line, job)?;
     }
     Ok(())
 }
@@ -319,119 +289,95 @@ fn run_lines(out: &mut impl Write, input: &[u8], text: &mut [u8], tape: &mut [u8
 fn run_long(
     out: &mut impl Write,
     pairs: usize,
-    even: u8,
-    odd: u8,
+    pair: &[u8],
     rest: &[u8],
-    text: &mut [u8],
-    tape: &mut [u8],
+    job: &mut Draft,
 ) -> Result<()> {
-    let mut at = 0;
+    job.begin(0x09);
     for _ in 0..pairs {
-        at = [even, odd].encode(text, at);
+        job.write(pair);
     }
-    let (_, end) = read_quoted(rest, text, at);
-    let flagged = put_flags(tape, 0x09);
-    let tape_end = put_command(tape, flagged, codes::COMMENT, 0, end);
-    open(out, filled(text, end), filled(tape, tape_end))
+    job.write(rest);
+    job.put_command(codes::COMMENT, 0);
+    open(out, job, 16)
 }
 
 // ---- pragmas by rule
 
-// One of seven parts, the last of which is empty.
-fn put_part(text: &mut [u8], at: usize, part: usize) -> usize {
-    match part {
-        0 => b"this".encode(text, at),
-        1 => b"import".encode(text, at),
-        2 => b"meta".encode(text, at),
-        3 => b"h".encode(text, at),
-        4 => b"class".encode(text, at),
-        5 => b"1x".encode(text, at),
-        _ => at,
+// Seven parts, the last of which is empty.
+const PARTS: [&[u8]; 7] = [b"this", b"import", b"meta", b"h", b"class", b"1x", b""];
+
+// A dot and one more part for a number from 1 on, by its remainder, and then those behind it; nothing for 0.
+fn put_more(job: &mut Draft, parts: usize) {
+    let mut left = parts;
+    while 0 < left {
+        job.write(b".");
+        job.write(PARTS[(left - 1) % 7]);
+        left = (left - 1) / 7;
     }
-}
-
-// A dot and one more part for a number from 1 on, by its remainder; nothing for 0.
-fn put_more(text: &mut [u8], at: usize, parts: usize) -> usize {
-    if parts == 0 {
-        return at;
-    }
-    let dotted = b'.'.encode(text, at);
-    put_part(text, dotted, (parts - 1) % 7)
-}
-
-// The number of the parts behind that one.
-fn behind(parts: usize) -> usize {
-    parts.saturating_sub(1) / 7
-}
-
-// The pragma with this number: below 2,800 each pragma of one to four parts has one, in which the first part counts for the least.
-fn put_pragma(text: &mut [u8], at: usize, parts: usize) -> usize {
-    let second = parts / 7;
-    let third = behind(second);
-    let a = put_part(text, at, parts % 7);
-    let b = put_more(text, a, second);
-    let c = put_more(text, b, third);
-    put_more(text, c, behind(third))
 }
 
 // The text, and how its pragma was read: its form, or the notice of the part that fails.
-fn show_pragma(out: &mut impl Write, text: &[u8], tape: &[u8]) -> Result<()> {
+fn show_pragma(out: &mut impl Write, job: &Draft) -> Result<()> {
+    let text = job.text();
     let mut notices = [0xee; 16];
-    let opened = open_job(text, tape, &mut notices);
+    let opened = open_job(text, job.tape(), &mut notices);
     let state = opened.state;
-    let settings = state.settings;
-    let form = settings.pragma;
-    say(out, text)?;
-    say_form(out, form)?;
+    out.write_all(text)?;
+    say_form(out, state.settings.pragma)?;
     say_notices(out, &notices, state.notices)?;
-    say(out, b"\n")
+    writeln!(out)
 }
 
-// A classic job with this pragma, behind one more byte of the text.
-fn run_pragma(out: &mut impl Write, parts: usize, text: &mut [u8], tape: &mut [u8]) -> Result<()> {
-    let start = b'@'.encode(text, 0);
-    let end = put_pragma(text, start, parts);
-    let flagged = put_flags(tape, 0x08);
-    let tape_end = put_command(tape, flagged, codes::PRAGMA, start, end);
-    show_pragma(out, filled(text, end), filled(tape, tape_end))
+// A classic job with the pragma of this number, behind one more byte of the text: below 2,800 each pragma of one to four parts has one, in which the first part
+// counts for the least.
+fn run_pragma(out: &mut impl Write, parts: usize, job: &mut Draft) -> Result<()> {
+    job.begin(0x08);
+    job.write(b"@");
+    job.write(PARTS[parts % 7]);
+    put_more(job, parts / 7);
+    job.put_command(codes::PRAGMA, 1);
+    show_pragma(out, job)
 }
 
-fn run_pragmas(out: &mut impl Write, text: &mut [u8], tape: &mut [u8]) -> Result<()> {
+fn run_pragmas(out: &mut impl Write, job: &mut Draft) -> Result<()> {
     for parts in 0..2800 {
-        run_pragma(out, parts, text, tape)?;
+        run_pragma(out, parts, job)?;
     }
     Ok(())
 }
 
 // The jobs of the input, then those that are made by rule.
-fn run(out: &mut impl Write, input: &[u8], text: &mut [u8], tape: &mut [u8]) -> Result<()> {
-    run_lines(out, input, text, tape)?;
-    say(
+fn run(out: &mut impl Write, input: &[u8]) -> Result<()> {
+    let mut draft = Draft {
+        text: [0; 65536],
+        text_end: 0,
+        tape: [0; 4096],
+        tape_end: 0,
+    };
+    let job = &mut draft;
+    run_lines(out, input, job)?;
+    writeln!(out, "# ---- long comments: 60,000 at signs, then a pragma")?;
+    run_long(out, 30000, b"@@", b" @jsx h.g", job)?;
+    writeln!(
         out,
-        b"# ---- long comments: 60,000 at signs, then a pragma\n",
+        "# 30,000 at signs, each behind a space, or behind a letter"
     )?;
-    run_long(out, 30000, b'@', b'@', b" @jsx h.g", text, tape)?;
-    say(
+    run_long(out, 30000, b" @", b" @jsx h.g", job)?;
+    run_long(out, 30000, b"x@", b" @jsx h.g", job)?;
+    writeln!(out, "# 65,535 bytes, and one more")?;
+    run_long(out, 32763, b"@@", b" @jsx h.g", job)?;
+    run_long(out, 32763, b"@@", b" @jsx h.gg", job)?;
+    writeln!(
         out,
-        b"# 30,000 at signs, each behind a space, or behind a letter\n",
+        "# ---- behind an @, every pragma of up to four parts out of this, import, meta, h, class, 1x and an empty one"
     )?;
-    run_long(out, 30000, b' ', b'@', b" @jsx h.g", text, tape)?;
-    run_long(out, 30000, b'x', b'@', b" @jsx h.g", text, tape)?;
-    say(out, b"# 65,535 bytes, and one more\n")?;
-    run_long(out, 32763, b'@', b'@', b" @jsx h.g", text, tape)?;
-    run_long(out, 32763, b'@', b'@', b" @jsx h.gg", text, tape)?;
-    say(
-        out,
-        b"# ---- behind an @, every pragma of up to four parts out of this, import, meta, h, class, 1x and an empty one\n",
-    )?;
-    run_pragmas(out, text, tape)
+    run_pragmas(out, job)
 }
 
 fn main(rt: HostRuntime) {
     let mut input = [0u8; 65536];
     let n = read_full(&mut rt.reader(), &mut input);
-    let mut text = [0u8; 65536];
-    let mut tape = [0u8; 4096];
     // a test whose output is not taken has failed by what is missing there
-    let _ = run(&mut io::writer(&rt), &input[..n], &mut text, &mut tape);
+    let _ = run(&mut io::writer(&rt), &input[..n]);
 }

@@ -6,15 +6,17 @@ use mathlib.Core.List.{List, [], ◌∷◌}
 use Prim.Native.Nat.{ℕ, suc, ◌+◌, ◌-◌, ◌*◌, ◌≤◌}
 use native.Mathlib.Omega.{arith}
 use lib.ListN.{length, drop, get_or}
-use lib.Dec.{eqb, leb, ltb}
+use lib.Dec.{eqb, ltb}
 use borrow.Author.Tests.{eqb-true, ltb-false, eq-eqb, le-ltb}
 use Rattle.std.specs.Prelude.{Option, Result, Ok, Err}
 use Rattle.text.specs.declared.spans.Span.{Span}
 use Rattle.commands.specs.declared.error.CommandError.{CommandError}
 use Rattle.commands.specs.declared.error.CommandError.TheVariants.{Cut}
 use Rattle.commands.specs.Operands.{operands}
-use Rattle.commands.specs.Root.{heritage_with, scope_with, heritage_command, scope_command, name_command, member_command, attribute_command, property_command, value_command, child_command}
+use Rattle.commands.specs.Root.{scope_kind_of, scoped, heritage_command, scope_command, name_command, member_command, attribute_command, property_command, value_command, child_command}
 use Rattle.commands.specs.Sizes.{root_commands, size_in, command_size, heritage_size, scope_size, name_size, member_size, attribute_size, property_size, value_size, child_size}
+use Rattle.commands.specs.declared.root.Heritage.{Heritage}
+use Rattle.commands.specs.declared.root.ScopeKind.{ScopeKind}
 use Rattle.commands.specs.declared.root.ScopeCommand.{ScopeCommand}
 use Rattle.commands.specs.declared.root.NameCommand.{NameCommand}
 use Rattle.commands.specs.declared.root.AttributeCommand.{AttributeCommand}
@@ -78,15 +80,26 @@ pub heritage_front : (t : List ℕ) → Fronted t (heritage_size (heritage_comma
 unfolding heritage_command command_size size_in root_commands
 heritage_front [] = nothing []
 heritage_front (b ∷ t) =
-    let P : Result ℕ CommandError → Type 0 = λ c. Fronted (b ∷ t) (heritage_size c) 0 in
-    test P b 0x01 (λ e. with_operands P 1 t (nothing _) (λ h. choose P (leb (get_or t 0 0) 2) (front b 0x01 1 t refl e h) (nothing _))) (nothing _)
+    let P : Result Heritage CommandError → Type 0 = λ c. Fronted (b ∷ t) (heritage_size c) 0 in
+    let k = get_or t 0 0 in
+    test P b 0x01
+    (λ e.
+    with_operands P 1 t (nothing _)
+    (λ h.
+    let w = front b 0x01 1 t refl e h in
+    choose P (eqb k 0) w (choose P (eqb k 1) w (choose P (eqb k 2) w (nothing _)))))
+    (nothing _)
+
+scoped_front : (t : List ℕ) (k : Result ScopeKind CommandError) → Fronted t 2 0 → Fronted t (scope_size (scoped k)) 0
+scoped_front t (Ok k) h = h
+scoped_front t (Err e) h = nothing t
 
 pub scope_front : (found : Bool) (t : List ℕ) → Fronted t (scope_size (scope_command found t)) 0
 unfolding scope_command command_size size_in root_commands
 scope_front found [] = nothing []
 scope_front found (b ∷ t) =
     let P : Result ScopeCommand CommandError → Type 0 = λ c. Fronted (b ∷ t) (scope_size c) 0 in
-    test P b 0x02 (λ e. with_operands P 1 t (nothing _) (λ h. choose P (leb (get_or t 0 0) 3) (front b 0x02 1 t refl e h) (nothing _)))
+    test P b 0x02 (λ e. with_operands P 1 t (nothing _) (λ h. scoped_front (b ∷ t) (scope_kind_of (get_or t 0 0)) (front b 0x02 1 t refl e h)))
     (test_found P found b 0x10 (λ e. with_operands P 8 t (nothing _) (λ h. front b 0x10 8 t refl e h))
     (test_found P found b 0x11 (λ e. with_operands P 8 t (nothing _) (λ h. front b 0x11 8 t refl e h)) (nothing _)))
 

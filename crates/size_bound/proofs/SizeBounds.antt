@@ -20,6 +20,8 @@ use Rattle.tape.specs.declared.refusal.Fault.TheVariants as fault
 use Rattle.std.specs.Prelude.{Option, None, Some, Result, Ok, Err}
 use Rattle.commands.specs.declared.error.CommandError.{CommandError}
 use Rattle.commands.specs.declared.root.Place.{Place}
+use Rattle.commands.specs.declared.root.Heritage.{Heritage}
+use Rattle.commands.specs.declared.root.ScopeKind.{ScopeKind}
 use Rattle.commands.specs.declared.root.ScopeCommand.{ScopeCommand}
 use Rattle.commands.specs.declared.root.ScopeCommand.TheVariants as scopes
 use Rattle.commands.specs.declared.root.NameCommand.{NameCommand}
@@ -228,10 +230,10 @@ mutual
 abbrev ScopedWithin : ℕ → Parsed Scoped → Type 0
 ScopedWithin r p = Told (λ s u. cost_node s.node ≤ r) p
 
-scopes_by_command : (text t : List ℕ) (c : Result ScopeCommand CommandError) (full bare : Place → Parsed Node) (next : ℕ → Parsed Scoped) → Fronted t (scope_size c) 0
+scopes_by_command : (text t : List ℕ) (c : Result ScopeCommand CommandError) (full bare : Place → Parsed Node) (next : ScopeKind → Parsed Scoped) → Fronted t (scope_size c) 0
     → ((p : Place) → NodeCosts (drop 9 t) (full p))
     → ((p : Place) → NodeCosts (drop 9 t) (bare p))
-    → ((k : ℕ) → ScopedWithin (size_bound (drop 2 t)) (next k))
+    → ((k : ScopeKind) → ScopedWithin (size_bound (drop 2 t)) (next k))
     → ScopedWithin (size_bound t) (scopes_by text t c full bare next)
 unfolding scopes_by
 scopes_by_command text t (Err e) full bare next f h k n = faults
@@ -252,7 +254,7 @@ scopes_within (suc f) text known t =
 abbrev RootWithin : ℕ → Parsed Root → Type 0
 RootWithin r p = Told (λ o u. cost_node o.node ≤ r) p
 
-root_by_command : (t : List ℕ) (c : Result ℕ CommandError) (rest : Parsed Scoped) → Fronted t (heritage_size c) 0 → ScopedWithin (size_bound (drop 2 t)) rest
+root_by_command : (t : List ℕ) (c : Result Heritage CommandError) (rest : Parsed Scoped) → Fronted t (heritage_size c) 0 → ScopedWithin (size_bound (drop 2 t)) rest
     → RootWithin (size_bound t) (root_by t c rest)
 unfolding root_by
 root_by_command t (Err e) rest f h = faults

@@ -8,28 +8,27 @@ ghost use Rattle.size_bound.specs.SizeBound.{text_length, call_size_bound, Holds
 use commands::sizes::command_size;
 use commands::{codes, sizes};
 use tape::limits::MAX_LENGTH;
-use tape::numbers::read_u16;
+use tape::numbers::Operand;
 
 // How many bytes are passed at a code: those of its command, or the one where no command begins with it.
+#[tactic(auto, using(commands::proofs::Table::size_or_one))]
 fn bytes_passed(code: u8) -> usize
     ensures { result ≡ 1 + (command_size code - 1) }
 {
-    command_size(code).max(1)
+    command_size(code).unwrap_or(1)
 }
 
 // The length of the text that the command at a place tells; 0 where it is none, or cut off.
-// kept: over a tape of texts a slice pattern takes 21 percent more instructions (callgrind), since its length is tested at every code.
+// kept: over a tape of texts a slice pattern takes 21 percent more instructions (callgrind), since its length is tested at every code; more than 3 is too slow.
 fn text_length(tape: &[u8], at: usize) -> u16
     requires { at < length tape.now }
     ensures { result ≡ text_length (drop at tape.now) }
 {
-    if tape[at] != codes::TEXT {
+    if tape[at] != codes::TEXT || tape.len() - at < sizes::WITH_SPAN {
         return 0;
     }
-    if tape.len() - at < sizes::WITH_SPAN {
-        return 0;
-    }
-    read_u16(tape, at + 3)
+    // a span's length stands behind its start
+    u16::read(tape, at + sizes::BARE + u16::SIZE)
 }
 
 // Four bytes for each of the tape and six for each of its texts': as much as the calls of the root can take, if it is one.
@@ -42,7 +41,7 @@ pub fn call_size_bound(tape: &[u8]) -> usize
     }
     let mut at: usize = 0;
     let mut texts: usize = 0;
-    // kept: a loop over the rest of the tape takes 40 percent more instructions (callgrind).
+    // kept: a loop over the rest of the tape takes 40 percent more instructions (callgrind); more than 3 is too slow.
     while at < tape.len() {
         texts += text_length(tape, at) as usize;
         at += bytes_passed(tape[at]);

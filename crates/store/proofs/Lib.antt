@@ -4,3 +4,4 @@ pub mod Adding
 pub mod Following
 pub mod Soundness
 pub mod Writing
+pub mod Full

@@ -18,19 +18,18 @@ use text::spans::{Bounds, Span, span_bounds};
 // ---- the settings
 
 // Within the text, cutting no character; an empty span is in order.
+#[tactic(auto, unfolding(definitions::specs::States::in_order))]
 fn in_order(bounds: Bounds) -> bool
     ensures { result ≡ in_order bounds }
 {
     matches!(bounds, Bounds::Empty | Bounds::Good)
 }
 
+#[tactic(auto, unfolding(definitions::specs::States::borne_out))]
 fn borne_out(text: &[u8], setting: Option<Span>) -> bool
     ensures { result ≡ borne_out text.now setting }
 {
-    match setting {
-        None => true,
-        Some(span) => in_order(span_bounds(text, span)),
-    }
+    setting.is_none_or(|span| in_order(span_bounds(text, span)))
 }
 
 fn spans_borne_out(text: &[u8], options: Options) -> bool
@@ -44,13 +43,11 @@ fn spans_borne_out(text: &[u8], options: Options) -> bool
 }
 
 // Whether the text bears out the form of a pragma: it does for none that has a byte over 7F, since no opening takes it.
+#[tactic(auto, using(crate::proofs::Forms::same_by_eq), unfolding(definitions::specs::States::form_borne_out))]
 fn form_borne_out(text: &[u8], mode: Mode, pragma: Option<Span>, form: Form) -> bool
     ensures { result ≡ form_borne_out (if_classic mode (over_ascii_in text.now pragma)) form (form_under mode text.now pragma) }
 {
-    match over_ascii_under(mode, text, pragma) {
-        Some(_) => false,
-        None => form == form_under(mode, text, pragma),
-    }
+    over_ascii_under(mode, text, pragma).is_none() && form == form_under(mode, text, pragma)
 }
 
 fn forms_borne_out(text: &[u8], settings: Settings) -> bool
@@ -65,45 +62,42 @@ fn forms_borne_out(text: &[u8], settings: Settings) -> bool
 // ---- the records
 
 // createElement is of the import source, every other name of the runtime source.
-fn source_of(name: u8) -> u8
+// kept: a name and a source are numbers of the record tape, as in `Import` and in the definition; any is taken, and an enum would ask more of callers
+pub fn source_of(name: u8) -> u8
     ensures { result ≡ source_of name }
 {
-    if name == CREATE_ELEMENT {
-        IMPORT_SOURCE
-    } else {
-        RUNTIME_SOURCE
+    match name {
+        CREATE_ELEMENT => IMPORT_SOURCE,
+        _ => RUNTIME_SOURCE,
     }
 }
 
 fn can_name(development: bool, name: u8) -> bool
     ensures { result ≡ can_name development name }
 {
-    if development {
-        return (name == CREATE_ELEMENT) | (name == FRAGMENT) | (name == JSX_DEV);
+    match name {
+        CREATE_ELEMENT | FRAGMENT => true,
+        JSX_DEV => development,
+        JSX | JSXS => !development,
+        _ => false,
     }
-    (name == CREATE_ELEMENT) | (name == FRAGMENT) | ((name == JSX) | (name == JSXS))
 }
 
+#[tactic(auto, unfolding(definitions::specs::Store::can_import))]
 fn can_import(mode: Mode, development: bool, source: u8, name: u8) -> bool
     ensures { result ≡ can_import mode development source name }
 {
-    match mode {
-        Mode::Module => can_name(development, name) & (source == source_of(name)),
-        Mode::Script => false,
-        Mode::Classic => false,
-    }
+    matches!(mode, Mode::Module) && can_name(development, name) && source == source_of(name)
 }
 
+#[tactic(auto, unfolding(definitions::specs::Store::can_require))]
 fn can_require(mode: Mode, source: u8) -> bool
     ensures { result ≡ can_require mode source }
 {
-    match mode {
-        Mode::Module => false,
-        Mode::Script => source < 2,
-        Mode::Classic => false,
-    }
+    matches!(mode, Mode::Script) && source <= RUNTIME_SOURCE
 }
 
+#[tactic(auto, unfolding(definitions::specs::Store::can_bind))]
 fn can_bind(settings: Settings, import: Import) -> bool
     ensures { result ≡ can_bind settings import }
 {
@@ -137,14 +131,13 @@ fn follow(settings: Settings, records: &[Record]) -> bool
 pub fn is_sound(text: &[u8], state: State) -> bool
     ensures { result ≡ sound text.now state }
 {
-    let count = state.count;
-    if 8 < count {
+    let Some(records) = state.records.get(..state.count) else {
         return false;
-    }
+    };
     let settings = state.settings;
     spans_borne_out(text, settings.options)
         & forms_borne_out(text, settings)
-        & follow(settings, &state.records[..count])
+        & follow(settings, records)
 }
 
 // Whether a root turns the state away, over targets of these lengths.

@@ -13,7 +13,7 @@ use tape::refusal::Refusal;
 // The first `count` of the records: what a job binds, in order of making.
 #[derive(Clone, Copy)]
 pub struct Store {
-    // kept: no heap, so the records stand in a buffer with their number beside it
+    // kept: a caller's state may tell any count, which is answered and not changed, so no `ArrayVec` can hold the records (docs/DECISIONS.md, 17)
     pub records: [Record; 8],
     pub count: u8,
 }
@@ -24,17 +24,14 @@ impl Store {
         ensures number { result ≡ (added self.old import).number }
         ensures store_after { self.new ≡ (added self.old import).store }
     {
-        let count = self.count as usize;
-        if 8 < count {
-            return None;
-        }
-        if let Some(number) = number_in(&self.records[..count], import) {
+        let binding = self.count;
+        let count = usize::from(binding);
+        if let Some(number) = number_in(self.records.get(..count)?, import) {
             return Some(number as u8);
         }
-        if count == 8 {
+        if count == self.records.len() {
             return None;
         }
-        let binding = self.count;
         self.records[count] = Record { import, binding };
         self.count = binding + 1;
         Some(binding)

@@ -15,46 +15,42 @@ use std::io;
 use std::io::{Result, Write};
 use text::spans::Span;
 
-fn jsx() -> Import {
-    Import::Named(1, 2)
-}
+const JSX: Import = Import::Named(1, 2);
 
-fn create_element() -> Import {
-    Import::Named(0, 1)
-}
+const CREATE_ELEMENT: Import = Import::Named(0, 1);
 
-fn fragment() -> Import {
-    Import::Named(1, 0)
-}
+const FRAGMENT: Import = Import::Named(1, 0);
+
+// kept: each line has its own label and its own state, so that the two and the writer are no value of their own.
 
 // ---- tapes
 
 fn modules(out: &mut impl Write, module: State) -> Result<()> {
     show(out, "nothing bound", module, 1)?;
-    show(out, "jsx", bind(module, jsx()), 6)?;
-    show(out, "jsx twice", bind(bind(module, jsx()), jsx()), 6)
+    show(out, "jsx", bind(module, JSX), 6)?;
+    show(out, "jsx twice", bind(bind(module, JSX), JSX), 6)
 }
 
 fn groups(out: &mut impl Write, module: State) -> Result<()> {
     show(
         out,
         "createElement first",
-        bind(bind(module, create_element()), jsx()),
+        bind(bind(module, CREATE_ELEMENT), JSX),
         11,
     )?;
     show(
         out,
         "createElement last",
-        bind(bind(module, jsx()), create_element()),
+        bind(bind(module, JSX), CREATE_ELEMENT),
         11,
     )?;
     show(
         out,
         "fragment, then jsx",
-        bind(bind(module, fragment()), jsx()),
+        bind(bind(module, FRAGMENT), JSX),
         9,
     )?;
-    let three = bind(bind(bind(module, jsx()), create_element()), fragment());
+    let three = bind(bind(bind(module, JSX), CREATE_ELEMENT), FRAGMENT);
     show(out, "all four names", bind(three, Import::Named(1, 3)), 17)
 }
 
@@ -115,17 +111,17 @@ fn order(out: &mut impl Write, forged: State) -> Result<()> {
 // ---- forged records
 
 fn numbers(out: &mut impl Write, module: State) -> Result<()> {
-    let one = bind(module, jsx());
-    show(out, "numbered from 1", put(module, jsx(), 1), 2)?;
-    show(out, "a gap", put(one, fragment(), 2), 2)?;
-    show(out, "a number twice", put(one, fragment(), 0), 2)
+    let one = bind(module, JSX);
+    show(out, "numbered from 1", put(module, JSX, 1), 2)?;
+    show(out, "a gap", put(one, FRAGMENT, 2), 2)?;
+    show(out, "a number twice", put(one, FRAGMENT, 0), 2)
 }
 
 fn repeated(out: &mut impl Write, module: State, script: State) -> Result<()> {
     show(
         out,
         "a named import twice",
-        put(put(module, jsx(), 0), jsx(), 1),
+        put(put(module, JSX, 0), JSX, 1),
         2,
     )?;
     show(
@@ -143,7 +139,7 @@ fn repeated(out: &mut impl Write, module: State, script: State) -> Result<()> {
 }
 
 fn counts(out: &mut impl Write, module: State) -> Result<()> {
-    let one = bind(module, jsx());
+    let one = bind(module, JSX);
     show(out, "9 records", filled(one, 9, 0, 0), 2)?;
     show(
         out,
@@ -198,7 +194,7 @@ fn plugins_cannot(out: &mut impl Write, module: State, development: State) -> Re
         put(module, Import::Named(1, 4), 0),
         2,
     )?;
-    show(out, "jsx in development", put(development, jsx(), 0), 2)?;
+    show(out, "jsx in development", put(development, JSX, 0), 2)?;
     show(
         out,
         "jsxs in development",
@@ -208,12 +204,12 @@ fn plugins_cannot(out: &mut impl Write, module: State, development: State) -> Re
 }
 
 fn others_cannot(out: &mut impl Write, script: State, classic: State) -> Result<()> {
-    show(out, "a named import in a script", put(script, jsx(), 0), 2)?;
+    show(out, "a named import in a script", put(script, JSX, 0), 2)?;
     show(out, "source 2", put(script, Import::Default(2), 0), 2)?;
     show(
         out,
         "a named import in classic",
-        put(classic, create_element(), 0),
+        put(classic, CREATE_ELEMENT, 0),
         2,
     )?;
     show(
@@ -254,42 +250,40 @@ fn show_options(
 fn pragma_spans(out: &mut impl Write, settings: Settings) -> Result<()> {
     let options = settings.options;
     let far = at(0, 4);
-    show_options(
-        out,
-        "pragma outside",
-        settings,
-        Options {
-            pragma: far,
-            ..options
-        },
-    )?;
-    show_options(
-        out,
-        "fragment pragma outside",
-        settings,
-        Options {
-            pragma_frag: far,
-            ..options
-        },
-    )?;
-    show_options(
-        out,
-        "TypeScript pragma outside",
-        settings,
-        Options {
-            ts_pragma: far,
-            ..options
-        },
-    )?;
-    show_options(
-        out,
-        "its fragment pragma outside",
-        settings,
-        Options {
-            ts_pragma_frag: far,
-            ..options
-        },
-    )
+    let cases = [
+        (
+            "pragma outside",
+            Options {
+                pragma: far,
+                ..options
+            },
+        ),
+        (
+            "fragment pragma outside",
+            Options {
+                pragma_frag: far,
+                ..options
+            },
+        ),
+        (
+            "TypeScript pragma outside",
+            Options {
+                ts_pragma: far,
+                ..options
+            },
+        ),
+        (
+            "its fragment pragma outside",
+            Options {
+                ts_pragma_frag: far,
+                ..options
+            },
+        ),
+    ];
+    for (label, options) in cases {
+        show_options(out, label, settings, options)?;
+    }
+    Ok(())
 }
 
 fn show_source(
@@ -420,21 +414,21 @@ fn fills(out: &mut impl Write, module: State) -> Result<()> {
 // ---- adding
 
 fn adding(out: &mut impl Write, module: State) -> Result<()> {
-    show_added(out, "the first", module, jsx())?;
-    show_added(out, "a second", bind(module, jsx()), fragment())?;
+    show_added(out, "the first", module, JSX)?;
+    show_added(out, "a second", bind(module, JSX), FRAGMENT)?;
     show_added(
         out,
         "the first again",
-        bind(bind(module, jsx()), fragment()),
-        jsx(),
+        bind(bind(module, JSX), FRAGMENT),
+        JSX,
     )
 }
 
 fn adding_last(out: &mut impl Write, seven: State) -> Result<()> {
-    show_added(out, "the eighth", seven, fragment())?;
-    show_added(out, "a ninth", filled(seven, 8, 0, 0), fragment())?;
-    show_added(out, "one of eight", filled(seven, 8, 0, 0), jsx())?;
-    show_added(out, "beyond eight", filled(seven, 9, 0, 0), jsx())
+    show_added(out, "the eighth", seven, FRAGMENT)?;
+    show_added(out, "a ninth", filled(seven, 8, 0, 0), FRAGMENT)?;
+    show_added(out, "one of eight", filled(seven, 8, 0, 0), JSX)?;
+    show_added(out, "beyond eight", filled(seven, 9, 0, 0), JSX)
 }
 
 fn run(out: &mut impl Write) -> Result<()> {
@@ -462,7 +456,7 @@ fn run(out: &mut impl Write) -> Result<()> {
     module_forms(out)?;
     fills(out, module)?;
     adding(out, module)?;
-    adding_last(out, filled(put(module, jsx(), 0), 7, 0, 0))
+    adding_last(out, filled(put(module, JSX, 0), 7, 0, 0))
 }
 
 fn main(rt: HostRuntime) {

@@ -1,3 +1,4 @@
 pub mod Targets
 pub mod ReadBack
 pub mod Filling
+pub mod Shifts

@@ -7,6 +7,7 @@
 --     wrote_length, wrote_nil             the target keeps its length; an empty one stays empty
 --     wrote_small, wrote_count            the place after the run: within the limit, and exact below it
 --     wrote_room                          what the target holds, where the place after is within it
+--     fitted_short, fitted_room           a run that was measured, and then written where it fits
 -- Assumes nothing.
 use mathlib.Core.Path.{◌≡◌, refl, sym, ap, subst, ◌∙◌}
 use mathlib.Core.Logic.{⊎_elim, ◌⊎◌, inl, inr}
@@ -15,10 +16,15 @@ use Prim.Native.Nat.{ℕ, zero, suc, ◌+◌, ◌-◌, ◌≤◌, ◌<◌, ◌^�
 use native.Mathlib.Nat.{add-zero, add-suc, suc-add}
 use native.Mathlib.Omega.{arith}
 use lib.ListN.{length, take, drop, set, length-append}
-use Rattle.std.proofs.Common.{append_assoc}
+use Rattle.std.proofs.Common.{append_assoc, zero-add}
 use borrow.Rule.Slice.PartMut.{put_mid, Post-is}
 use lib.Seq.{sets, sets-eq, length-sets, set_out}
-use Rattle.tape.specs.Targets.{Wrote}
+use mathlib.Core.Bool.{true, false}
+use lib.Dec.{ltb}
+use borrow.Author.Tests.{lt-ltb, le-ltb}
+use Rattle.std.specs.Prelude.{Err, Ok}
+use Rattle.tape.specs.declared.refusal.Refusal.TheVariants.{Space}
+use Rattle.tape.specs.Targets.{Wrote, Fitted}
 
 -- ---- runs of stores
 
@@ -87,3 +93,17 @@ pub wrote_room : {o o₁ : List ℕ} {at r : ℕ} {bs : List ℕ} → length o <
 wrote_room {o} {o₁} {at} {r} {bs} short h w =
     let e : r ≡ at + length bs = omega (arith, w.next) in
     (e, rw e (w.holds ∙ sets_room o at bs (omega (arith, w.next))))
+
+-- a run that was measured, and then written where it fits
+pub fitted_short : (bs o : List ℕ) {s s' : List ℕ} {size : ℕ} → length bs < 2 ^ 63 → Wrote s s' 0 size bs → length o < size → Fitted bs o (Err (Space size)) o
+fitted_short bs o {size = size} h w k =
+    let e : size ≡ length bs = omega (arith, w.next) in
+    let l : ltb (length o) (length bs) ≡ true = lt-ltb (length o) (length bs) (omega arith) in
+    record { value = rw (l, e); holds = rw l }
+
+pub fitted_room : (bs o : List ℕ) {s s' o' : List ℕ} {size r : ℕ} → length bs < 2 ^ 63 → Wrote s s' 0 size bs → size ≤ length o → Wrote o o' 0 r bs → Fitted bs o (Ok size) o'
+fitted_room bs o {o' = o'} {size = size} h w k v =
+    let e : size ≡ length bs = omega (arith, w.next) in
+    let l : ltb (length o) (length bs) ≡ false = le-ltb (length o) (length bs) (omega arith) in
+    let p : o' ≡ bs ++ drop (length bs) o = v.holds ∙ sets_room o 0 bs (omega arith) ∙ ap (λ (n : ℕ). bs ++ drop n o) (zero-add (length bs)) in
+    record { value = rw (l, e); holds = rw l p }

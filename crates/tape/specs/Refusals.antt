@@ -2,6 +2,7 @@
 use Rattle.std.specs.Prelude.{ℕ, List, [], ◌∷◌}
 use Rattle.tape.specs.declared.refusal.Fault.{Fault}
 use Rattle.tape.specs.declared.refusal.Fault.TheVariants.{Grammar, Outside, Cuts, EmptyName, Depth, Reference, Position}
+use Rattle.tape.specs.declared.refusal.TapeError.{TapeError}
 use Rattle.tape.specs.declared.refusal.Refusal.{Refusal}
 use Rattle.tape.specs.declared.refusal.Refusal.TheVariants.{TooLong, NotUtf8, Tape, PragmaByte, Bindings, Space, NoticeSpace, Forged}
 
@@ -39,3 +40,7 @@ figure_of Bindings = 8
 figure_of (Space n) = n
 figure_of (NoticeSpace n) = n
 figure_of Forged = 0
+
+-- what is wrong at a command, and the place that is told with it
+abbrev pub fault_at : Fault → ℕ → TapeError
+fault_at f p = record { fault = f; place = p }

@@ -1,6 +1,6 @@
-// Numbers on tapes: little-endian, two or four bytes.
-ghost use Rattle.std.specs.Prelude.{◌≡◌, ◌+◌, ◌*◌, ◌≤◌, ℕ, List, length, get_or};
-ghost use Rattle.tape.specs.Numbers.{u16_at, u32_at, span_at};
+// Numbers on tapes and in a state's bytes: little-endian, of one, two, four or eight bytes.
+ghost use Rattle.std.specs.Prelude.{◌≡◌, ◌+◌, ◌≤◌, ℕ, List, length, get_or};
+ghost use Rattle.tape.specs.Numbers.{u16_at, u32_at, u64_at, span_at};
 
 use text::spans::Span;
 
@@ -53,6 +53,18 @@ impl Operand for u32 {
     }
 }
 
+impl Operand for u64 {
+    ghost SIZE = { 8 };
+
+    ghost value = { u64_at };
+
+    const SIZE: usize = 8;
+
+    fn read(tape: &[u8], at: usize) -> u64 {
+        u64::from(u32::read(tape, at)) + (u64::from(u32::read(tape, at + 4)) << 32)
+    }
+}
+
 impl Operand for Span {
     ghost SIZE = { 4 };
 
@@ -66,28 +78,4 @@ impl Operand for Span {
             len: u16::read(tape, at + 2),
         }
     }
-}
-
-// The number of the two bytes from `at` on.
-pub fn read_u16(tape: &[u8], at: usize) -> u16
-    requires { at + 2 ≤ length tape.now }
-    ensures { result ≡ u16_at tape.now at }
-{
-    u16::read(tape, at)
-}
-
-// The number of the four bytes from `at` on.
-pub fn read_u32(tape: &[u8], at: usize) -> u32
-    requires { at + 4 ≤ length tape.now }
-    ensures { result ≡ u32_at tape.now at }
-{
-    u32::read(tape, at)
-}
-
-// The span of the four bytes from `at` on.
-pub fn read_span(tape: &[u8], at: usize) -> Span
-    requires { at + 4 ≤ length tape.now }
-    ensures { result ≡ span_at tape.now at }
-{
-    Span::read(tape, at)
 }

@@ -1,8 +1,9 @@
 // Refusals by name, with the number and the figure of each: docs/TAPES.md, "Refusals".
-ghost use Rattle.std.specs.Prelude.{◌≡◌};
-ghost use Rattle.tape.specs.Refusals.{fault_number, number_of, figure_of};
+ghost use Rattle.std.specs.Prelude.{◌≡◌, ◌+◌, ◌<◌, ◌^◌};
+ghost use Rattle.tape.specs.Refusals.{fault_number, number_of, figure_of, fault_at};
+ghost use Rattle.tape.specs.declared.refusal.Refusal.TheVariants.{Tape};
 
-use crate::limits::MAX_LENGTH;
+use crate::limits::{MAX_BINDINGS, MAX_LENGTH};
 
 // The number that an entry without a refusal of its own answers.
 pub const FORGED: u8 = 12;
@@ -65,27 +66,39 @@ impl Refusal {
         match self {
             Refusal::TooLong => MAX_LENGTH,
             Refusal::NotUtf8(place) | Refusal::Tape(_, place) | Refusal::PragmaByte(place) => place,
-            Refusal::Bindings => 8,
+            Refusal::Bindings => MAX_BINDINGS,
             Refusal::Space(size) | Refusal::NoticeSpace(size) => size,
             Refusal::Forged => 0,
         }
     }
 }
 
-pub fn fault_number(f: Fault) -> u8
-    ensures { result ≡ fault_number f }
-{
-    f.number()
+// A fault, and the place that is told with it, counted from the front of what was read.
+// The place stands first, where an `Ok` has its size: told from further on both grow alike.
+#[derive(Clone, Copy)]
+pub struct TapeError {
+    pub place: usize,
+    pub fault: Fault,
 }
 
-pub fn number(r: Refusal) -> u8
-    ensures { result ≡ number_of r }
-{
-    r.number()
+impl TapeError {
+    // The same, counted from `at` bytes before.
+    #[inline]
+    pub fn behind(self, at: usize) -> TapeError
+        requires { at + self.place < 2 ^ 64 }
+        ensures { result ≡ fault_at self.fault (at + self.place) }
+    {
+        TapeError {
+            place: at + self.place,
+            ..self
+        }
+    }
 }
 
-pub fn figure(r: Refusal) -> usize
-    ensures { result ≡ figure_of r }
-{
-    r.figure()
+impl From<TapeError> for Refusal {
+    ghost from_gives = { λ e r. r ≡ Tape e.fault e.place };
+
+    fn from(error: TapeError) -> Refusal {
+        Refusal::Tape(error.fault, error.place)
+    }
 }

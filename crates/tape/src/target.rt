@@ -1,13 +1,14 @@
-// Writing into a lent target. Each function counts, and stores what is within the target: so one body of code measures (with an empty
+// Writing into a lent target. Each `encode` counts, and stores what is within the target: so one body of code measures (with an empty
 // target) and writes.
-ghost use Rattle.std.specs.Prelude.{◌≡◌, ℕ, List, [], ◌∷◌, ◌+◌};
-ghost use Rattle.tape.specs.Numbers.{u16_bytes, u32_bytes, span_bytes};
-ghost use Rattle.tape.specs.Targets.{Wrote};
+ghost use Rattle.std.specs.Prelude.{◌≡◌, ℕ, List, [], ◌∷◌, ◌++◌, ◌<◌, ◌^◌, length};
+ghost use Rattle.tape.specs.Numbers.{u16_bytes, u32_bytes, u64_bytes, span_bytes};
+ghost use Rattle.tape.specs.Targets.{Wrote, Fitted};
 
+use crate::refusal::Refusal;
 use text::spans::Span;
 
 // Places stop here, past any target's end.
-const LAST_PLACE: usize = 0x8000_0000_0000_0000;
+pub const LAST_PLACE: usize = 0x8000_0000_0000_0000;
 
 // What can be written as bytes.
 pub trait Encode {
@@ -16,6 +17,15 @@ pub trait Encode {
     // Writes the bytes at `at`, as far as they are within the target, and gives the place behind them.
     fn encode(self, out: &mut [u8], at: usize) -> usize
         ensures { Wrote out.old out.new at result (bytes self) };
+}
+
+// Nothing: a place past the last stops there.
+impl Encode for () {
+    ghost bytes = { λ _. [] };
+
+    fn encode(self, out: &mut [u8], at: usize) -> usize {
+        at.min(LAST_PLACE)
+    }
 }
 
 impl Encode for u8 {
@@ -35,6 +45,7 @@ impl<'a> Encode for &'a [u8] {
 
     // One test where there is room for nothing, one more where there is room for all: inlined, it stores a number's bytes at once.
     #[inline(always)]
+    #[tactic(auto, using(crate::proofs::Targets::sets_out, crate::proofs::Targets::sets_mid, crate::proofs::Targets::wrote_as))]
     fn encode(self, out: &mut [u8], at: usize) -> usize {
         if out.len() <= at {
             return at.min(LAST_PLACE - self.len()) + self.len();
@@ -60,6 +71,18 @@ impl<const N: usize> Encode for [u8; N] {
     }
 }
 
+// One behind the other.
+impl<A: Encode, B: Encode> Encode for (A, B) {
+    ghost bytes = { λ p. A.bytes p.0 ++ B.bytes p.1 };
+
+    #[inline(always)]
+    fn encode(self, out: &mut [u8], at: usize) -> usize {
+        let (first, second) = self;
+        let behind = first.encode(out, at);
+        second.encode(out, behind)
+    }
+}
+
 impl Encode for u16 {
     ghost bytes = { u16_bytes };
 
@@ -77,6 +100,15 @@ impl Encode for u32 {
     }
 }
 
+impl Encode for u64 {
+    ghost bytes = { u64_bytes };
+
+    fn encode(self, out: &mut [u8], at: usize) -> usize {
+        let number = self.to_le_bytes();
+        number.encode(out, at)
+    }
+}
+
 impl Encode for Span {
     ghost bytes = { span_bytes };
 
@@ -87,39 +119,15 @@ impl Encode for Span {
     }
 }
 
-pub fn put(out: &mut [u8], at: usize, b: u8) -> usize
-    ensures { Wrote out.old out.new at result (b ∷ []) }
+// What `put` writes, at the target's front, if there is room for all of it: it is measured first.
+pub fn write_fitting<F: Fn(&mut [u8]) -> usize>(target: &mut [u8], put: F) -> Result<usize, Refusal>
+    requires { F.IsAlwaysCallable put }
+    ensures { (bs : List ℕ) → length bs < 2 ^ 63 → ((o : _) (r : ℕ) (o' : _) → F.post put o r o' → Wrote o.now o'.now 0 r bs) → Fitted bs target.old result target.new }
 {
-    b.encode(out, at)
-}
-
-pub fn put_two(out: &mut [u8], at: usize, a: u8, b: u8) -> usize
-    ensures { Wrote out.old out.new at result (a ∷ b ∷ []) }
-{
-    [a, b].encode(out, at)
-}
-
-pub fn put_u16(out: &mut [u8], at: usize, x: u16) -> usize
-    ensures { Wrote out.old out.new at result (u16_bytes x) }
-{
-    x.encode(out, at)
-}
-
-pub fn put_u32(out: &mut [u8], at: usize, x: u32) -> usize
-    ensures { Wrote out.old out.new at result (u32_bytes x) }
-{
-    x.encode(out, at)
-}
-
-pub fn put_span(out: &mut [u8], at: usize, s: Span) -> usize
-    ensures { Wrote out.old out.new at result (span_bytes s) }
-{
-    s.encode(out, at)
-}
-
-// All of a slice.
-pub fn put_slice(out: &mut [u8], at: usize, bytes: &[u8]) -> usize
-    ensures { Wrote out.old out.new at result bytes.now }
-{
-    bytes.encode(out, at)
+    let size = put(&mut []);
+    if target.len() < size {
+        return Err(Refusal::Space(size));
+    }
+    put(target);
+    Ok(size)
 }

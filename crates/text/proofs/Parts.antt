@@ -1,33 +1,26 @@
 -- The part of a text that a span names, and what its bounds say of it. Assumes nothing.
-use mathlib.Core.Path.{◌≡◌, refl, sym, ◌∙◌}
+use mathlib.Core.Path.{◌≡◌, refl, ap}
 use mathlib.Core.Bool.{Bool, true, false, cond, ◌||◌}
-use mathlib.Core.List.{List, []}
+use mathlib.Core.List.{List}
 use Prim.Native.Nat.{ℕ, ◌+◌, ◌-◌, ◌≤◌, ◌<◌}
+use Rattle.std.proofs.Common.{min}
 use native.Mathlib.Omega.{arith}
-use lib.ListN.{length, take, drop, length-take, length-drop, drop_of_length-le}
-use lib.Seq.{take_all, take-nil}
+use lib.ListN.{length, take, drop, length-take, length-drop}
+use Rattle.std.proofs.lemmas.List.{drop_min, take_min}
 use lib.Dec.{eqb, ltb}
 use borrow.Author.Tests.{ltb-false, eqb-false}
 use Rattle.text.specs.declared.spans.Span.{Span}
 use Rattle.text.specs.declared.spans.Bounds.{Bounds}
 use Rattle.text.specs.declared.spans.Bounds.TheVariants.{Outside, Cuts, Empty, Good}
 use Rattle.text.specs.Spans.{part_of, cuts_at, bounds_of}
-use Rattle.text.proofs.Lists.{tail_part}
 
--- ---- the three parts that the code takes
+-- ---- the part that the code takes
 module _ (text : List ℕ) (s : Span) where
-  pub part_inside : take (s.start + s.len - s.start) (drop s.start text) ≡ part_of text s
+  pub part_clipped : take (min (s.start + s.len) (length text) - min s.start (length text)) (drop (min s.start (length text)) text) ≡ part_of text s
   unfolding part_of
-  part_inside = let e : s.start + s.len - s.start ≡ s.len = omega arith in rw e
-
-  pub part_tail : length text ≤ s.start + s.len → take (length text - s.start) (drop s.start text) ≡ part_of text s
-  unfolding part_of
-  part_tail h =
-      tail_part text s.start ∙ sym (take_all s.len (drop s.start text) (omega (arith, length-drop s.start text)))
-
-  pub part_past : length text ≤ s.start → [] ≡ part_of text s
-  unfolding part_of
-  part_past h = rw (drop_of_length-le text h) (sym (take-nil s.len))
+  part_clipped =
+      rw (drop_min s.start text, ← take_min s.len (drop s.start text))
+      (ap (λ n. take n (drop s.start text)) (omega (arith, length-drop s.start text)))
 
   pub part_length : s.start + s.len ≤ length text → length (part_of text s) ≡ s.len
   unfolding part_of

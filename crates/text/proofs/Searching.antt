@@ -11,7 +11,7 @@ use lib.Seq.{drop-drop, drop-append_seam}
 use lib.Dec.{eqb}
 use borrow.Author.Tests.{eqb-false, ne_eqb, not-true, lt-leb}
 use lib.Bits.{bit_or, or_add_and, and_le_l, and_le_r}
-use Rattle.std.specs.Prelude.{Some, None}
+use Rattle.std.specs.Prelude.{Option, Some, None}
 use Rattle.std.specs.List.{fold, position, position_from}
 use Rattle.std.specs.Option.{option_map}
 use Rattle.std.proofs.lemmas.Iterator.Adapters.{position_from-zero}
@@ -105,6 +105,14 @@ module _ (p : ℕ → Bool) where
       → find_from p a (drop a s) ≡ find_from p (a + b) (drop (a + b) s)
   find_further s a b e =
       find_past a (drop a s) ∙ ap (option_map (λ j. a + j)) e ∙ sym (find_shift a b (drop b (drop a s))) ∙ ap (find_from p (a + b)) (drop-drop b a s)
+
+  -- none of the bytes that the search may begin behind passes
+  pub find_behind : (n : ℕ) (l : List ℕ) → find p l ≡ find_from p n (drop n l) → (k : ℕ) → k < n → k < length l → p (get_or l k 0) ≡ false
+  find_behind n l e k h q = go (find p l) refl
+    where
+      go : (f : Option ℕ) → find p l ≡ f → p (get_or l k 0) ≡ false
+      go None g = find_none l 0 g k q
+      go (Some j) g = (find_found l j g).before k (omega (arith, (find_at (drop n l) n j (sym e ∙ g)).0))
 
   -- the library's word for it
   find_is : (k : ℕ) (l : List ℕ) → position_from p k l ≡ find_from p k l

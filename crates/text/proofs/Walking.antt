@@ -11,10 +11,10 @@ use borrow.Author.Tests.{leb-false}
 use Rattle.std.specs.Prelude.{Option}
 use Rattle.std.specs.Prelude.{Some, None}
 use Rattle.text.specs.Bytes.{find, over_ascii}
-use Rattle.text.specs.Utf8.{width, after, ill_from, first_ill}
+use Rattle.text.specs.Utf8.{width, nonzero, after, ill_from, first_ill}
 use Rattle.text.proofs.Lists.{tail_part}
 use Rattle.text.proofs.Searching.{find_found, find_none}
-use Rattle.text.proofs.Rows.{by_row}
+use Rattle.text.proofs.Rows.{by_row, no_width, some_width}
 use Rattle.text.proofs.Sequences.{width_le}
 
 -- ---- at the front of a list
@@ -101,3 +101,53 @@ module _ (s : List ℕ) (i : ℕ) (come : Come s i) where
               inside = omega (arith, q, length-drop i s, width_le (drop i s));
               same = come.same ∙ ill_on n i (drop i s) q ∙ ap (ill_from 0 (i + suc n)) (drop-drop (suc n) i s);
             }
+
+-- ---- the code's loop: what is left of the text
+pub record Left (s rest : List ℕ) : Type 0 where
+  pub come : Come s (length s - length rest)
+  pub from : rest ≡ drop (length s - length rest) s
+
+pub left_start : (s : List ℕ) → Left s s
+left_start s =
+    let e : length s - length s ≡ 0 = omega arith in
+    record { come = rw e (come_start s); from = rw e }
+
+module _ (s rest : List ℕ) (left : Left s rest) where
+  here : rest ≡ take (length s - (length s - length rest)) (drop (length s - length rest) s)
+  here = left.from ∙ sym (tail_part s (length s - length rest))
+
+  -- the walk comes past n more bytes
+  left_on : (n : ℕ) → n ≤ length rest → Come s (length s - length rest + n) → Left s (take (length rest - n) (drop n rest))
+  left_on n h come =
+      let f : length rest ≡ length s - (length s - length rest) = ap length left.from ∙ length-drop (length s - length rest) s in
+      let e : length s - length (drop n rest) ≡ length s - length rest + n = omega (arith, length-drop n rest) in
+      rw (tail_part rest n) (record {
+        come = rw e come;
+        from = ap (drop n) left.from ∙ (drop-drop n (length s - length rest) s ∙ ap (λ k. drop k s) (sym e));
+      })
+
+  pub left_plain : find over_ascii rest ≡ None → first_ill s ≡ None
+  left_plain e = come_plain s (length s - length rest) left.come (find over_ascii rest) (ap (find over_ascii) here) e
+
+  pub left_run : (n : ℕ) → find over_ascii rest ≡ Some n → (n < length rest) × Left s (take (length rest - n) (drop n rest))
+  left_run n e =
+      let p = come_run s (length s - length rest) left.come (find over_ascii rest) (ap (find over_ascii) here) n e in
+      let h : n < length rest = (find_found over_ascii rest n e).inside in
+      (h, left_on n (omega arith) p.1)
+
+  pub left_stop : 0 < length rest → nonzero (width rest) ≡ None → first_ill s ≡ Some (length s - length rest)
+  left_stop h e =
+      come_stop s (length s - length rest) left.come (width rest) (ap width here)
+      (omega (arith, ap length left.from, length-drop (length s - length rest) s))
+      (no_width (width rest) e)
+
+  pub left_step : 0 < length rest → (w : ℕ) → nonzero (width rest) ≡ Some w → (0 < w) × (w ≤ length rest) × Left s (take (length rest - w) (drop w rest))
+  left_step h w e =
+      let q = some_width (width rest) w e in
+      let k : w ≤ length rest = omega (arith, q.0, width_le rest) in (
+        q.1,
+        k,
+        left_on w k (come_step s (length s - length rest) left.come w (rw (← q.0) (ap width here))
+            (omega (arith, ap length left.from, length-drop (length s - length rest) s))
+            (λ z. omega (arith, z, q.1))),
+      )

@@ -4,9 +4,6 @@ ghost use Rattle.std.specs.Fn.{FnReturnsAt};
 ghost use Rattle.text.specs.Bytes.{find_from, find, over_ascii};
 ghost use Rattle.text.specs.Bytes as bytes;
 
-// The first byte that is not ASCII.
-pub const ASCII_END: u8 = 0x80;
-
 // Whether two slices have the same bytes.
 pub fn same(a: &[u8], b: &[u8]) -> bool
     ensures { result ≡ bytes.same a.now b.now }
@@ -31,11 +28,11 @@ fn lacks(s: &[u8], b: u8) -> bool
 fn is_ascii(s: &[u8]) -> bool
     ensures { result ≡ true → find over_ascii s.now ≡ None }
 {
-    s.iter().fold(0, |all, x| all | *x) < ASCII_END
+    s.iter().fold(0, |all, x| all | *x).is_ascii()
 }
 
 // How many bytes the blocks of this size have at the front of `s` that pass a test.
-fn passed_blocks<F: Fn(&[u8]) -> bool>(s: &[u8], size: usize, passes: F) -> usize
+pub fn passed_blocks<F: Fn(&[u8]) -> bool>(s: &[u8], size: usize, passes: F) -> usize
     requires size_nonzero { 0 < size }
     requires callable { F.IsAlwaysCallable passes }
     ensures inside { result ≤ length s.now }
@@ -65,11 +62,11 @@ pub fn find_over_ascii(s: &[u8]) -> Option<usize>
     ensures { result ≡ find over_ascii s.now }
 {
     // a run of other characters should not pay for a block at each of them
-    if ASCII_END <= *s.first()? {
+    if !s.first()?.is_ascii() {
         return Some(0);
     }
     let long = passed_blocks(s, LONG, is_ascii);
     let passed = long + passed_blocks(&s[long..], SHORT, is_ascii);
-    let at = s[passed..].iter().position(|x| ASCII_END <= *x)?;
+    let at = s[passed..].iter().position(|x| !x.is_ascii())?;
     Some(passed + at)
 }

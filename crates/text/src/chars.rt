@@ -20,6 +20,7 @@ fn over(b: u8, floor: u8) -> u32
 }
 
 // The code point of a well-formed sequence.
+// kept: `str::from_utf8` and `chars` would test the sequence a second time, and take it for a text.
 fn code_of(sequence: &[u8]) -> u32
     ensures { result ≡ code_of sequence.now }
 {
@@ -45,27 +46,26 @@ pub fn first_char(s: &[u8]) -> Option<Char>
     })
 }
 
+#[tactic(auto, unfolding(crate::specs::Chars::is_white_space))]
 pub fn is_white_space(code: u32) -> bool
     ensures { result ≡ is_white_space code }
 {
-    (code == 0x09) | (code == 0x0b) | (code == 0x0c) | (code == 0xfeff) | is_space_separator(code)
+    matches!(code, 0x09 | 0x0b | 0x0c | 0xfeff) || is_space_separator(code)
 }
 
 // Whether the Unicode Standard puts the code point into the general category Zs.
 fn is_space_separator(code: u32) -> bool
     ensures { result ≡ is_space_separator code }
 {
-    (code == 0x20)
-        | (code == 0xa0)
-        | (code == 0x1680)
-        | ((0x2000 <= code) & (code <= 0x200a))
-        | (code == 0x202f)
-        | (code == 0x205f)
-        | (code == 0x3000)
+    matches!(
+        code,
+        0x20 | 0xa0 | 0x1680 | 0x2000..=0x200a | 0x202f | 0x205f | 0x3000
+    )
 }
 
+#[tactic(auto, unfolding(crate::specs::Chars::is_line_terminator))]
 pub fn is_line_terminator(code: u32) -> bool
     ensures { result ≡ is_line_terminator code }
 {
-    (code == 0x0a) | (code == 0x0d) | (code == 0x2028) | (code == 0x2029)
+    matches!(code, 0x0a | 0x0d | 0x2028 | 0x2029)
 }

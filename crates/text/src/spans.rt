@@ -1,5 +1,5 @@
 // Spans into a text.
-ghost use Rattle.std.specs.Prelude.{◌≡◌};
+ghost use Rattle.std.specs.Prelude.{◌≡◌, ◌+◌, ◌≤◌};
 ghost use Rattle.text.specs.Spans.{part_of, cuts_at, bounds_of};
 
 // A part of the text: where it starts, and how many bytes it has.
@@ -7,6 +7,19 @@ ghost use Rattle.text.specs.Spans.{part_of, cuts_at, bounds_of};
 pub struct Span {
     pub start: u16,
     pub len: u16,
+}
+
+impl Span {
+    // So many bytes from a place on, of a text that a span can reach.
+    pub fn new(start: usize, len: usize) -> Span
+        requires reached { start + len ≤ 65535 }
+        ensures { result ≡ record { start = start; len = len } }
+    {
+        Span {
+            start: start as u16,
+            len: len as u16,
+        }
+    }
 }
 
 // What is wrong with a span, the last of these that holds; `Empty` is wrong only for a name. Of two spans' bounds the greater is the worse.
@@ -22,36 +35,29 @@ pub enum Bounds {
 pub fn part<'a>(text: &'a [u8], span: Span) -> &'a [u8]
     ensures { result.now ≡ part_of text.now span }
 {
-    let start = span.start as usize;
-    let end = start + span.len as usize;
-    if end <= text.len() {
-        return &text[start..end];
-    }
-    if start <= text.len() {
-        return &text[start..];
-    }
-    &text[0..0]
+    let start = usize::from(span.start);
+    let end = start + usize::from(span.len);
+    &text[start.min(text.len())..end.min(text.len())]
 }
 
 // Whether the place `i` lies within a character.
+#[tactic(auto, unfolding(crate::specs::Spans::cuts_at))]
 fn cuts_at(text: &[u8], i: usize) -> bool
     ensures { result ≡ cuts_at text.now i }
 {
     matches!(text.get(i), Some(0x80..=0xbf))
 }
 
+#[tactic(auto, unfolding(crate::specs::Spans::bounds_of))]
 pub fn span_bounds(text: &[u8], span: Span) -> Bounds
     ensures { result ≡ bounds_of text.now span }
 {
-    let start = span.start as usize;
-    let end = start + span.len as usize;
+    let start = usize::from(span.start);
+    let end = start + usize::from(span.len);
     if text.len() < end {
         return Bounds::Outside;
     }
-    if cuts_at(text, start) {
-        return Bounds::Cuts;
-    }
-    if cuts_at(text, end) {
+    if cuts_at(text, start) || cuts_at(text, end) {
         return Bounds::Cuts;
     }
     if span.len == 0 {

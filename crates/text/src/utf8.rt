@@ -6,6 +6,7 @@ ghost use Rattle.text.specs.Utf8 as utf8;
 use crate::bytes::find_over_ascii;
 
 // Whether s has a byte at i, from lo to hi.
+#[tactic(auto, unfolding(crate::specs::Utf8::within))]
 fn within_at(s: &[u8], i: usize, lo: u8, hi: u8) -> bool
     ensures { result ≡ within s.now i lo hi }
 {
@@ -51,12 +52,13 @@ pub fn width(s: &[u8]) -> Option<usize>
 pub fn first_ill_formed(s: &[u8]) -> Option<usize>
     ensures { result ≡ first_ill s.now }
 {
-    let mut i = 0;
+    let mut rest = s;
     loop {
-        let at = i + find_over_ascii(&s[i..])?;
-        let Some(w) = width(&s[at..]) else {
-            return Some(at);
+        let at = find_over_ascii(rest)?;
+        rest = &rest[at..];
+        let Some(w) = width(rest) else {
+            return Some(s.len() - rest.len());
         };
-        i = at + w;
+        rest = &rest[w..];
     }
 }

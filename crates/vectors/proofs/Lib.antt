@@ -1,3 +1,3 @@
-pub mod Words
+pub mod Cutting
 pub mod Folding
 pub mod Pairs

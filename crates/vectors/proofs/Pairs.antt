@@ -1,33 +1,62 @@
--- What the loop of `hex_bytes` keeps, and what each turn makes of it: too short, a blank, no pair, a pair. Assumes nothing.
-use mathlib.Core.Path.{◌≡◌, refl, sym, ap, ◌∙◌}
-use mathlib.Core.Bool.{true, false}
+-- Pairs of digits one after another, and what the loop of `hex_bytes` keeps. Assumes nothing.
+use Rattle.std.specs.Prelude.{Some}
+use mathlib.Core.Path.{◌≡◌, refl, sym, ap, subst, ◌∙◌}
+use mathlib.Core.Bool.{Bool, true, false}
 use mathlib.Core.List.{List, [], ◌∷◌, ◌++◌, append-nil, append_assoc}
-use Prim.Native.Nat.{ℕ, ◌+◌, ◌≤◌, ◌<◌}
+use Prim.Native.Nat.{ℕ, ◌+◌, ◌*◌, ◌-◌, ◌≤◌, ◌<◌}
 use native.Mathlib.Numerals.{add-one}
 use native.Mathlib.Omega.{arith}
 use lib.ListN.{length, get_or, take, drop, set, length-set}
 use lib.Seq.{take_all, take_at, take-suc-set, length-take-le}
-use Rattle.vectors.specs.Lines.{is_blank}
+use Rattle.vectors.specs.Lines.{is_blank, inked}
+use Rattle.text.proofs.Lists.{tail_part}
 use Rattle.vectors.specs.Values.{digit_of, paired, hex_bytes}
+use Rattle.vectors.proofs.Cutting.{inked_more, inked_all, inked_front}
 
-pub hex_short : (l : List ℕ) → length l < 2 → hex_bytes l ≡ []
+-- blanks in front say nothing
+hex_inked : (s : List ℕ) → hex_bytes s ≡ hex_bytes (inked s)
 unfolding hex_bytes
-hex_short [] h = refl
-hex_short (a ∷ []) h = refl
-hex_short (a ∷ b ∷ l) h = absurd (omega arith)
+hex_inked [] = refl
+hex_inked (a ∷ []) = go (is_blank a) refl
+  where
+    go : (t : Bool) → is_blank a ≡ t → [] ≡ hex_bytes (inked (a ∷ []))
+    go true e = ap hex_bytes (sym (inked_more a [] e))
+    go false e = ap hex_bytes (sym (inked_all a [] e))
+hex_inked (a ∷ b ∷ l) = go (is_blank a) refl (hex_inked (b ∷ l))
+  where
+    go : (t : Bool) → is_blank a ≡ t → hex_bytes (b ∷ l) ≡ hex_bytes (inked (b ∷ l)) → hex_bytes (a ∷ b ∷ l) ≡ hex_bytes (inked (a ∷ b ∷ l))
+    go true e f = rw e f ∙ ap hex_bytes (sym (inked_more a (b ∷ l) e))
+    go false e f = ap hex_bytes (sym (inked_all a (b ∷ l) e))
 
-pub hex_blank : (l : List ℕ) → 2 ≤ length l → is_blank (get_or l 0 0) ≡ true → hex_bytes l ≡ hex_bytes (drop 1 l)
+pub no_pair : (s l : List ℕ) → l ≡ inked s → length l < 2 → hex_bytes s ≡ []
 unfolding hex_bytes
-hex_blank [] h q = absurd (omega arith)
-hex_blank (a ∷ []) h q = absurd (omega arith)
-hex_blank (a ∷ b ∷ l) h q = rw q
+no_pair s l e h = hex_inked s ∙ ap hex_bytes (sym e) ∙ go l h
+  where
+    go : (l : List ℕ) → length l < 2 → hex_bytes l ≡ []
+    go [] h = refl
+    go (a ∷ []) h = refl
+    go (a ∷ b ∷ l) h = absurd (omega arith)
 
-pub hex_pair : (l : List ℕ) → 2 ≤ length l → is_blank (get_or l 0 0) ≡ false
-    → hex_bytes l ≡ paired (digit_of (get_or l 0 0)) (digit_of (get_or l 1 0)) (hex_bytes (drop 2 l))
+-- a pair, by what its two bytes count
+pub at_pair : (s l : List ℕ) → l ≡ inked s → 2 ≤ length l
+    → hex_bytes s ≡ paired (digit_of (get_or l 0 0)) (digit_of (get_or l 1 0)) (hex_bytes (drop 2 l))
 unfolding hex_bytes
-hex_pair [] h q = absurd (omega arith)
-hex_pair (a ∷ []) h q = absurd (omega arith)
-hex_pair (a ∷ b ∷ l) h q = rw q
+at_pair s l e h = hex_inked s ∙ ap hex_bytes (sym e) ∙ go l h unblank
+  where
+    unblank : is_blank (get_or l 0 0) ≡ false
+    unblank =
+        subst (λ (m : List ℕ). is_blank (get_or m 0 0) ≡ false) (sym e)
+        (inked_front s (subst (λ (m : List ℕ). 0 < length m) e (omega (arith, h))))
+
+    go : (l : List ℕ) → 2 ≤ length l → is_blank (get_or l 0 0) ≡ false
+        → hex_bytes l ≡ paired (digit_of (get_or l 0 0)) (digit_of (get_or l 1 0)) (hex_bytes (drop 2 l))
+    go [] h q = absurd (omega arith)
+    go (a ∷ []) h q = absurd (omega arith)
+    go (a ∷ b ∷ l) h q = rw q
+
+pub first_pair : (s l : List ℕ) (x y : ℕ) → l ≡ inked s → 2 ≤ length l → digit_of (get_or l 0 0) ≡ Some x → digit_of (get_or l 1 0) ≡ Some y
+    → hex_bytes s ≡ (x * 16 + y) ∷ hex_bytes (take (length l - 2) (drop 2 l))
+first_pair s l x y e h p q = at_pair s l e h ∙ rw (p, q) (ap (λ (m : List ℕ). (x * 16 + y) ∷ hex_bytes m) (sym (tail_part l 2)))
 
 -- `left` is what is left of the text, and n bytes of a target of m hold what was read of it says
 pub record Came (s : List ℕ) (m : ℕ) (out : List ℕ) (n : ℕ) (left : List ℕ) : Type 0 where
@@ -53,14 +82,6 @@ came_full {s} {m} {out} {n} {left} c h =
     let k : length (take n out) ≡ n = length-take-le n out c.room in
     let q : length (take n out) ≡ m = omega (arith, c.room, c.kept) in
     ((c.room, sym k), sym (take_at (take n out) (hex_bytes left) m q) ∙ ap (take m) c.so_far)
-
-pub came_on : {s : List ℕ} {m : ℕ} {out : List ℕ} {n : ℕ} {left : List ℕ} (behind : List ℕ) → Came s m out n left → hex_bytes left ≡ hex_bytes behind
-    → Came s m out n behind
-came_on {out = out} {n = n} behind c e = record {
-  room = c.room;
-  kept = c.kept;
-  so_far = ap (λ (l : List ℕ). take n out ++ l) (sym e) ∙ c.so_far;
-}
 
 pub came_pair : {s : List ℕ} {m : ℕ} {out : List ℕ} {n : ℕ} {left : List ℕ} (x : ℕ) (behind : List ℕ) → Came s m out n left → n < length out
     → hex_bytes left ≡ x ∷ hex_bytes behind → Came s m (set out n x) (n + 1) behind

@@ -1,7 +1,7 @@
 -- Worked examples, computed from the definitions.
 use Rattle.std.specs.Prelude.{◌≡◌, refl, [], ◌∷◌, map}
-use Rattle.text.specs.Bytes.{ascii}
-use Rattle.vectors.specs.Lines.{is_blank, word_from, words_in, words}
+use Rattle.text.specs.Bytes.{ascii, find_from}
+use Rattle.vectors.specs.Lines.{is_blank, line_from, word_from, cut, lines, words}
 use Rattle.vectors.specs.Values.{mark_of, folded, is_hexadecimal, is_decimal, value_of}
 
 -- no word, one, two with blanks around them, words of one byte, a tab and a CR; LF is no blank
@@ -23,10 +23,26 @@ pub words_of_texts :
     ∷ ((0x61 ∷ []) ∷ (0x62 ∷ []) ∷ [])
     ∷ ((0x61 ∷ 0x0a ∷ 0x62 ∷ []) ∷ [])
     ∷ []
-unfolding words words_in word_from is_blank
+unfolding words cut word_from is_blank
 words_of_texts = refl
 
 -- numbers in three forms, and a word by the marks of its letters
 pub values_of_words : map value_of (words (ascii "12 0xff U+20AC ab")) ≡ 12 ∷ 255 ∷ 0x20ac ∷ 0x4000000000000022 ∷ []
-unfolding words words_in word_from is_blank value_of is_hexadecimal is_decimal folded mark_of
+unfolding words cut word_from is_blank value_of is_hexadecimal is_decimal folded mark_of
 values_of_words = refl
+
+-- no line, an empty one, one that ends and one that doesn't
+pub lines_of_texts :
+    map lines
+    ([]
+    ∷ (0x0a ∷ [])
+    ∷ (0x61 ∷ 0x0a ∷ [])
+    ∷ (0x61 ∷ 0x0a ∷ 0x0a ∷ 0x62 ∷ [])
+    ∷ [])
+    ≡ []
+    ∷ ([] ∷ [])
+    ∷ ((0x61 ∷ []) ∷ [])
+    ∷ ((0x61 ∷ []) ∷ [] ∷ (0x62 ∷ []) ∷ [])
+    ∷ []
+unfolding lines cut line_from find_from
+lines_of_texts = refl

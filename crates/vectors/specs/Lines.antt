@@ -37,15 +37,19 @@ word_of s = cond (eqb (length s) 0) None (Some (take (ink s) s, drop (ink s) s))
 unfoldable pub word_from : List ℕ → Option (List ℕ × List ℕ)
 word_from s = word_of (inked s)
 
--- a word, and at most so many behind it
-abbrev word_then : (List ℕ → List (List ℕ)) → Option (List ℕ × List ℕ) → List (List ℕ)
-word_then behind None = []
-word_then behind (Some p) = p.0 ∷ behind p.1
+-- what stands at the front by `first`, and what stands there behind it
+abbrev pub cut_on : (List ℕ → List (List ℕ)) → Option (List ℕ × List ℕ) → List (List ℕ)
+cut_on behind None = []
+cut_on behind (Some p) = p.0 ∷ behind p.1
 
-unfoldable pub words_in : ℕ → List ℕ → List (List ℕ)
-words_in zero s = []
-words_in (suc most) s = word_then (words_in most) (word_from s)
+-- what `first` cuts off a text, one part behind the other: so many at most
+unfoldable pub cut : (List ℕ → Option (List ℕ × List ℕ)) → ℕ → List ℕ → List (List ℕ)
+cut first zero s = []
+cut first (suc most) s = cut_on (cut first most) (first s)
 
--- the words of a text: no more than it has bytes
+-- the lines of a text, and the words of one: no more than it has bytes
+unfoldable pub lines : List ℕ → List (List ℕ)
+lines s = cut line_from (length s) s
+
 unfoldable pub words : List ℕ → List (List ℕ)
-words s = words_in (length s) s
+words s = cut word_from (length s) s

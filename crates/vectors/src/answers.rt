@@ -4,7 +4,7 @@ ghost use Rattle.vectors.specs.Lines.{words};
 ghost use Rattle.vectors.specs.Values.{value_of};
 ghost use Rattle.vectors.specs.Answers.{empty, with_value, with_values, same_values};
 
-use crate::lines::next_word;
+use crate::lines::Words;
 use crate::values::value_of;
 
 // So many values an answer holds.
@@ -57,15 +57,12 @@ pub fn named(word: &[u8]) -> Answer
 pub fn values_of(s: &[u8]) -> Answer
     ensures { result ≡ with_values empty (map value_of (words s.now)) }
 {
-    let mut a = no_values();
-    let mut left = s;
-    while let Some((word, behind)) = next_word(left) {
-        a = with_value(a, value_of(word));
-        left = behind;
-    }
-    a
+    Words { left: s }
+        .map(|word| value_of(word))
+        .fold(no_values(), |a, x| with_value(a, x))
 }
 
+// kept: no derived `==`: an answer of more than sixteen values is like none, not even like itself.
 #[tactic(auto, unfolding(crate::specs::Answers::same_values))]
 pub fn same_values(a: Answer, b: Answer) -> bool
     ensures { result ≡ same_values a b }

@@ -1,8 +1,9 @@
 // Lines of a text, words of a line, and the parts of a line around a byte.
 ghost use Rattle.std.specs.Prelude.{◌≡◌, ◌<◌, eqb, not, length, option_map, IfSome};
+ghost use Rattle.std.specs.Iterator.{YieldsFirstRef, item_count};
 ghost use Rattle.std.specs.List.{prefix_len};
 ghost use Rattle.text.specs.Bytes.{find};
-ghost use Rattle.vectors.specs.Lines.{is_blank, line_from, word_from, words, front, rest};
+ghost use Rattle.vectors.specs.Lines.{is_blank, line_from, word_from, inked, lines, words, front, rest};
 
 use text::bytes::find_byte;
 
@@ -40,13 +41,21 @@ fn ink(s: &[u8]) -> usize
     s.iter().take_while(|b| !is_blank(**b)).count()
 }
 
+// The text without the blanks in front.
+#[tactic(auto, using(crate::proofs::Cutting::prefix_inside))]
+pub(crate) fn inked<'a>(s: &'a [u8]) -> &'a [u8]
+    ensures { result.now ≡ inked s.now }
+{
+    &s[blanks(s)..]
+}
+
 // The first word, and what stands behind it.
-#[tactic(auto, unfolding(crate::specs::Lines::word_from))]
+#[tactic(auto, using(crate::proofs::Cutting::prefix_inside), unfolding(crate::specs::Lines::word_from))]
 pub fn next_word<'a>(s: &'a [u8]) -> Option<(&'a [u8], &'a [u8])>
     ensures value { option_map (λ p. (p.0.now, p.1.now)) result ≡ word_from s.now }
     ensures shorter { IfSome result (λ p. length p.1.now < length s.now) }
 {
-    let inked = &s[blanks(s)..];
+    let inked = inked(s);
     if inked.is_empty() {
         return None;
     }
@@ -54,20 +63,58 @@ pub fn next_word<'a>(s: &'a [u8]) -> Option<(&'a [u8], &'a [u8])>
     Some((&inked[..end], &inked[end..]))
 }
 
+// The lines of a text, one after another.
+#[derive(Drop)]
+pub struct Lines<'a> {
+    pub left: &'a [u8],
+}
+
+impl<'a> Iterator for Lines<'a> {
+    type Item = &'a [u8];
+
+    ghost next_gives = { YieldsFirstRef (λ s. lines s.left.now) };
+
+    ghost remaining = { item_count (λ s. lines s.left.now) };
+
+    #[tactic(auto, using(crate::proofs::Cutting::no_line, crate::proofs::Cutting::first_line))]
+    fn next(&mut self) -> Option<&'a [u8]> {
+        let (line, behind) = next_line(self.left)?;
+        self.left = behind;
+        Some(line)
+    }
+}
+
+// The words of a line, one after another.
+#[derive(Drop)]
+pub struct Words<'a> {
+    pub left: &'a [u8],
+}
+
+impl<'a> Iterator for Words<'a> {
+    type Item = &'a [u8];
+
+    ghost next_gives = { YieldsFirstRef (λ s. words s.left.now) };
+
+    ghost remaining = { item_count (λ s. words s.left.now) };
+
+    #[tactic(auto, using(crate::proofs::Cutting::no_word, crate::proofs::Cutting::first_word))]
+    fn next(&mut self) -> Option<&'a [u8]> {
+        let (word, behind) = next_word(self.left)?;
+        self.left = behind;
+        Some(word)
+    }
+}
+
 // How many words there are.
+#[tactic(auto, using(crate::proofs::Cutting::few_words))]
 pub fn word_count(s: &[u8]) -> usize
     ensures { result ≡ length (words s.now) }
 {
-    let mut count = 0;
-    let mut left = s;
-    while let Some((_, behind)) = next_word(left) {
-        count += 1;
-        left = behind;
-    }
-    count
+    Words { left: s }.count()
 }
 
 // What stands before the first b: all of s where there is none.
+#[tactic(auto, using(crate::proofs::Cutting::found_front))]
 pub fn before<'a>(s: &'a [u8], b: u8) -> &'a [u8]
     ensures { result.now ≡ front (find (eqb b) s.now) s.now }
 {
@@ -78,6 +125,7 @@ pub fn before<'a>(s: &'a [u8], b: u8) -> &'a [u8]
 }
 
 // What stands behind the first b: nothing where there is none.
+#[tactic(auto, using(crate::proofs::Cutting::found_inside))]
 pub fn after<'a>(s: &'a [u8], b: u8) -> &'a [u8]
     ensures { result.now ≡ rest (find (eqb b) s.now) s.now }
 {

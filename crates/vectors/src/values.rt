@@ -1,8 +1,9 @@
 // Bytes in hexadecimal, and words as numbers.
-ghost use Rattle.std.specs.Prelude.{◌≡◌, true, ◌≤◌, ◌<◌, ◌^◌, length, take, drop};
+ghost use Rattle.std.specs.Prelude.{◌≡◌, true, ◌≤◌, ◌<◌, ◌^◌, length, take, drop, IfSome};
+ghost use Rattle.std.specs.Iterator.{YieldsFirst, item_count};
 ghost use Rattle.vectors.specs.Values.{digit_of, mark_of, folded, hex_bytes, is_hexadecimal, is_decimal, value_of, letters_of};
 
-use crate::lines::is_blank;
+use crate::lines::inked;
 use text::bytes::same;
 
 // Values below this are numbers; a word's letters are counted from here on.
@@ -13,7 +14,8 @@ const RANGE: u64 = 0x0800_0000_0000_0000;
 
 // What a hexadecimal digit counts.
 fn digit(b: u8) -> Option<u8>
-    ensures { result ≡ digit_of b }
+    ensures value { result ≡ digit_of b }
+    ensures upper_bound { IfSome result (λ n. n < 16) }
 {
     match b {
         b'0'..=b'9' => Some(b - b'0'),
@@ -23,28 +25,43 @@ fn digit(b: u8) -> Option<u8>
     }
 }
 
+// The bytes that the pairs of digits at the front of a text say. Blanks may stand between the pairs.
+#[derive(Drop)]
+struct Pairs<'a> {
+    left: &'a [u8],
+}
+
+impl<'a> Iterator for Pairs<'a> {
+    type Item = u8;
+
+    ghost next_gives = { YieldsFirst (λ s. hex_bytes s.left.now) };
+
+    ghost remaining = { item_count (λ s. hex_bytes s.left.now) };
+
+    #[tactic(auto, using(crate::proofs::Pairs::no_pair, crate::proofs::Pairs::at_pair))]
+    fn next(&mut self) -> Option<u8> {
+        let [a, b, behind @ ..] = inked(self.left) else {
+            return None;
+        };
+        let byte = digit(*a)? * 16 + digit(*b)?;
+        self.left = behind;
+        Some(byte)
+    }
+}
+
 // Puts the bytes that the pairs of digits at the front of s say into `out`, as far as it has room, and answers how many.
-// Blanks may stand between the pairs.
+#[tactic(auto, using(crate::proofs::Pairs::came_end, crate::proofs::Pairs::came_full, crate::proofs::Pairs::came_pair))]
 pub fn hex_bytes(s: &[u8], out: &mut [u8]) -> usize
     ensures upper_bound { (result ≤ length out.new) × (result ≡ length (take result out.new)) }
     ensures out_after { take result out.new ≡ take (length out.old) (hex_bytes s.now) }
 {
     let mut n = 0;
-    let mut left = s;
-    while n < out.len() {
-        let [a, b, behind @ ..] = left else {
+    for byte in (Pairs { left: s }) {
+        if n == out.len() {
             break;
-        };
-        if is_blank(*a) {
-            left = &left[1..];
-            continue;
         }
-        let (Some(high), Some(low)) = (digit(*a), digit(*b)) else {
-            break;
-        };
-        out[n] = high * 16 + low;
+        out[n] = byte;
         n += 1;
-        left = behind;
     }
     n
 }
@@ -111,15 +128,12 @@ pub fn letters_of(value: u64, out: &mut [u8]) -> usize
     ensures out_after { drop result out.new ≡ letters_of (length out.old) value }
 {
     let mut left = value % RANGE;
-    let mut i = out.len();
-    // kept: letters come off a value last first, and the walk ends where the value does; a range counted down would need a `break` there.
-    while 0 < i {
+    for i in (0..out.len()).rev() {
         if left == 0 {
-            return i;
+            return i + 1;
         }
-        i -= 1;
         out[i] = 96 + (left % 32) as u8;
-        left = left / 32;
+        left /= 32;
     }
-    i
+    0
 }

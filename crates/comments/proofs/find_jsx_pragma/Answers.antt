@@ -1,6 +1,7 @@
 use Rattle.std.specs.Prelude.{Some}
 use Rattle.std.proofs.Common.{◌≡◌, ◌<◌, length, drop, not, rules, arith, sym, ap, ◌∙◌}
 use Rattle.definitions.specs.Comments.{is_blank, pragma, seek, place_from, value_of}
+use borrow.Author.Tests.{eqb-true, eqb-false}
 use Rattle.text.proofs.Lists.{told, tail_part}
 use Rattle.comments.specs.Searches.{known_for, search_for, pragma_for, pragma_of}
 use Rattle.comments.proofs.Signs.{place_range}
@@ -39,15 +40,15 @@ slice_bounds-value_of-count c = omega (arith, inside (goal.at.slice_bounds-value
 pub slice_bounds-value_of-start : goal.slice_bounds-value_of-start
 slice_bounds-value_of-start c = omega (arith, inside (goal.at.slice_bounds-value_of-start c).In_ok-start)
 
-pub returns-then-value-eq0 : goal.returns-then-value-eq0
+pub returns-then-is_empty : goal.returns-then-is_empty
 unfolding pragma_for
-returns-then-value-eq0 c =
-    let at = goal.at.returns-then-value-eq0 c in
-    sym (valued _ _ _ _ (hit at.In_ok-kind) _ (starts at.In_ok-start) ∙ by_none _ _ _ (ap length (sym (value at.After-value_of-value)) ∙ c.if-value-eq0.true))
+returns-then-is_empty c =
+    let at = goal.at.returns-then-is_empty c in
+    sym (valued _ _ _ _ (hit at.In_ok-kind) _ (starts at.In_ok-start) ∙ by_none _ _ _ (ap length (sym (value at.After-value_of-value)) ∙ eqb-true _ 0 (sym c.is_empty.ensures ∙ c.if-is_empty.true)))
 
 pub returns : goal.returns
 unfolding pragma_for
 returns c =
     let at = goal.at.returns c in
     rw (value at.After-value_of-value)
-    (sym (valued _ _ _ _ (hit at.In_ok-kind) _ (starts at.In_ok-start) ∙ by_some _ _ _ (λ z. c.if-value-eq0.false (ap length (value at.After-value_of-value) ∙ z))))
+    (sym (valued _ _ _ _ (hit at.In_ok-kind) _ (starts at.In_ok-start) ∙ by_some _ _ _ (λ z. eqb-false _ 0 (sym c.is_empty.ensures ∙ c.if-is_empty.false) (ap length (value at.After-value_of-value) ∙ z))))

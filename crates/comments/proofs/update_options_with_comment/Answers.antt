@@ -20,19 +20,14 @@ place c = lies _ _ _ _ _ (hit c)
 pub loop-pragma-init : goal.loop-pragma-init
 loop-pragma-init c = enter _ _ _
 
-pub overflow_add-span : goal.overflow_add-span
-overflow_add-span c = omega (arith, place (goal.at.overflow_add-span c).In-Some, fits (goal.at.overflow_add-span c).After-part-content)
+pub overflow_add-from : goal.overflow_add-from
+overflow_add-from c = omega (arith, place (goal.at.overflow_add-from c).In-Some, fits (goal.at.overflow_add-from c).After-part-content)
 
-pub overflow_sub-span : goal.overflow_sub-span
-overflow_sub-span c = omega (arith, place (goal.at.overflow_sub-span c).In-Some)
+pub overflow_sub-from : goal.overflow_sub-from
+overflow_sub-from c = omega (arith, place (goal.at.overflow_sub-from c).In-Some)
 
-pub overflow_cast-span-in-Some : goal.overflow_cast-span-in-Some
-overflow_cast-span-in-Some c =
-    omega (arith, place (goal.at.overflow_cast-span-in-Some c).In-Some, fits (goal.at.overflow_cast-span-in-Some c).After-part-content)
-
-pub overflow_cast-span-in-Some-2 : goal.overflow_cast-span-in-Some-2
-overflow_cast-span-in-Some-2 c =
-    omega (arith, place (goal.at.overflow_cast-span-in-Some-2 c).In-Some, fits (goal.at.overflow_cast-span-in-Some-2 c).After-part-content)
+pub new-span-requires : goal.new-span-requires
+new-span-requires c = omega (arith, place (goal.at.new-span-requires c).In-Some, fits (goal.at.new-span-requires c).After-part-content)
 
 pub overflow_add-at : goal.overflow_add-at
 overflow_add-at c = omega (arith, place (goal.at.overflow_add-at c).In-Some, fits (goal.at.overflow_add-at c).After-part-content)
@@ -41,7 +36,7 @@ pub loop-pragma-smaller : goal.loop-pragma-smaller
 loop-pragma-smaller c = omega (arith, place (goal.at.loop-pragma-smaller c).In-Some)
 
 pub loop-pragma-preserved : goal.loop-pragma-preserved
-loop-pragma-preserved c = rw c.apply-held.ensures (onward _ _ _ _ _ c.loop-pragma.invariant _ _ _ (hit (goal.at.loop-pragma-preserved c).In-Some))
+loop-pragma-preserved c = rw (c.apply-held.ensures, c.new-span.ensures, c.from.ensures) (onward _ _ _ _ _ c.loop-pragma.invariant _ _ _ (hit (goal.at.loop-pragma-preserved c).In-Some))
 
 pub returns : goal.returns
 unfolding with_comment pragma_for

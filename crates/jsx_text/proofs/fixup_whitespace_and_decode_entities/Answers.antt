@@ -2,7 +2,7 @@
 -- what is still to be written. Assumes nothing.
 use Rattle.std.specs.Prelude.{None}
 use Rattle.std.proofs.Common.{rules}
-use Prim.Native.Nat.{ℕ, min, ◌≤◌, ◌<◌, ◌+◌}
+use Prim.Native.Nat.{ℕ, min, ◌≤◌, ◌<◌, ◌+◌, ◌^◌}
 use native.Mathlib.Omega.{arith}
 use mathlib.Core.Path.{◌≡◌, refl, ap}
 use lib.ListN.{length}
@@ -17,7 +17,8 @@ use Rattle.jsx_text.proofs.fixup_whitespace_and_decode_entities.Goals.{After-mar
 
 pub loop-i-init : goal.loop-i-init
 loop-i-init c =
-    rw c.part-chars.ensures (turn_start c.args.text.now c.args.span c.args.calls.now c.args.at c.requires.at_bound)
+    let m : c.min.result ≡ min c.args.at (2 ^ 63) = search rules in
+    rw (c.part-chars.ensures, m) (turn_start c.args.text.now c.args.span c.args.calls.now c.args.at (omega arith))
 
 -- the text's part is well-formed, and where it is not empty its places fit a span
 chars_good : (c : At-loop-i) → first_ill c.part-chars.result.now ≡ None

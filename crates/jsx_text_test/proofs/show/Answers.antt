@@ -1,5 +1,4 @@
 -- `jsx_text_test::show` is safe and ends: a text that has no ill-formed sequence is one that `jsx_text` takes. Assumes nothing.
-use native.Mathlib.Omega.{arith}
 use mathlib.Core.Path.{sym, ap, ◌∙◌}
 use Rattle.text.specs.Utf8.{first_ill}
 use Rattle.jsx_text_test.proofs.show.Goals as goal
@@ -8,12 +7,10 @@ pub fixup_whitespace_and_decode_entities-counted-requires : goal.fixup_whitespac
 fixup_whitespace_and_decode_entities-counted-requires g c = record {
   text_len_bound = c.requires;
   well_formed = ap first_ill (sym c.part.ensures) ∙ sym c.first_ill_formed.ensures ∙ c.in-None.is;
-  at_bound = omega arith;
 }
 
 pub fixup_whitespace_and_decode_entities-texted-requires : goal.fixup_whitespace_and_decode_entities-texted-requires
 fixup_whitespace_and_decode_entities-texted-requires g c = record {
   text_len_bound = c.requires;
   well_formed = ap first_ill (sym c.part.ensures) ∙ sym c.first_ill_formed.ensures ∙ c.in-None.is;
-  at_bound = omega arith;
 }

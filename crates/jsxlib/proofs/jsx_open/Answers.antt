@@ -10,4 +10,4 @@ pub returns-clause-begins : goal.returns-clause-begins
 returns-clause-begins c =
     let o = c.open_job-stepped.ensures in
     let a = c.args in
-    opening_hosted a.text.now a.job.now a.state.now a.notices.now o.value o.notices_after refl c.settle.ensures
+    opening_hosted a.text.now a.job.now a.state.now a.notices.now o.value o.notices_after refl c.settle.ensures.bytes_after

@@ -6,4 +6,4 @@ pub run_roots-requires : goal.run_roots-requires
 run_roots-requires g c =
     let a = c.args in
     let f = job_fresh a.job.now a.text.now _ _ c.open_job-opened.ensures.value in
-    (f.0, omega (arith, f.1))
+    (omega (arith, f.0), omega (arith, f.1))

@@ -1,10 +1,7 @@
--- `layer_test::run_lines` is safe and ends. The loop's invariant: each line counted took a byte, so that the counts fit. Assumes nothing.
-use Prim.Native.Nat.{◌≤◌, ◌+◌}
-use lib.ListN.{length}
+-- `layer_test::run_lines` is safe and ends. The loop's invariant: no more vectors than lines, and no more that differ. Assumes nothing.
+use Prim.Native.Nat.{◌≤◌}
+use Rattle.std.specs.Iterator.Adapters.{enumerate_count}
 use Rattle.layer_test.proofs.run_lines.Given as goal
 
-abbrev pub invariant-loop-line : goal.invariant-loop-line
-invariant-loop-line g l = (l.number + length l.left ≤ length l.s) × (l.vectors ≤ l.number) × (l.differ ≤ l.vectors)
-
-abbrev pub decreases-loop-line : goal.decreases-loop-line
-decreases-loop-line g l = length l.left
+abbrev pub invariant-loop-i : goal.invariant-loop-i
+invariant-loop-i g l = (l.vectors ≤ enumerate_count l.i-iterator) × (l.differ ≤ l.vectors)

@@ -1,27 +1,28 @@
 use native.Mathlib.Omega.{arith}
+use Rattle.pen.proofs.Measuring.{pen_is}
 use Rattle.lowering.proofs.Judging.{few_records}
 use Rattle.lowering.proofs.Running.{Counted, counts, no_number, no_bound, no_notice_room, all_fits}
 use Rattle.lowering.proofs.fit.Goals as goal
-use Rattle.lowering.proofs.fit.Goals.{After-lower-pen}
+use Rattle.lowering.proofs.fit.Goals.{After-lower}
 
 -- what the run has told
-told : (c : After-lower-pen)
-    → Counted c.args.text.now c.args.state c.args.tape.now c.args.call_room c.args.notice_room c.lower-pen.result
+told : (c : After-lower)
+    → Counted c.args.text.now c.args.state c.args.tape.now c.args.call_room c.args.notice_room c.lower.new.pen
 told c =
-    counts c.requires (omega arith) c.pen_over.ensures c.lower-pen.ensures
+    counts c.requires (omega arith) (omega arith) (omega arith) (pen_is c.args.state _ _ _ _ c.store_of.ensures) c.lower.ensures.written
 
-pub pen_over-requires : goal.pen_over-requires
-pen_over-requires c =
+pub store_of-requires : goal.store_of-requires
+store_of-requires c =
     few_records c.requires.unforged
 
-pub lower-pen-requires : goal.lower-pen-requires
-lower-pen-requires c = record {
+pub lower-requires : goal.lower-requires
+lower-requires c = record {
   text_len_bound = c.requires.unforged.spelled.short;
   text_value = c.requires.unforged.spelled.formed;
 }
 
 pub returns-then-pen : goal.returns-then-pen
-returns-then-pen c = no_number (told (goal.at.returns-then-pen c).After-lower-pen) c.if-pen.true
+returns-then-pen c = no_number (told (goal.at.returns-then-pen c).After-lower) c.if-pen.true
 
 pub overflow_sub-call_room : goal.overflow_sub-call_room
 overflow_sub-call_room c =
@@ -29,7 +30,7 @@ overflow_sub-call_room c =
 
 pub returns-then-call_room-state : goal.returns-then-call_room-state
 returns-then-call_room-state c =
-    no_bound (told (goal.at.returns-then-call_room-state c).After-lower-pen) c.if-pen.false c.if-call_room-state.true
+    no_bound (told (goal.at.returns-then-call_room-state c).After-lower) c.if-pen.false c.if-call_room-state.true
 
 pub overflow_sub-notice_room : goal.overflow_sub-notice_room
 overflow_sub-notice_room c =
@@ -37,8 +38,8 @@ overflow_sub-notice_room c =
 
 pub returns-then-notice_room-state : goal.returns-then-notice_room-state
 returns-then-notice_room-state c =
-    no_notice_room (told (goal.at.returns-then-notice_room-state c).After-lower-pen) c.if-pen.false c.if-call_room-state.false c.if-notice_room-state.true
+    no_notice_room (told (goal.at.returns-then-notice_room-state c).After-lower) c.if-pen.false c.if-call_room-state.false c.if-notice_room-state.true
 
 pub returns : goal.returns
 returns c =
-    all_fits (told (goal.at.returns c).After-lower-pen) c.if-pen.false c.if-call_room-state.false c.if-notice_room-state.false
+    all_fits (told (goal.at.returns c).After-lower) c.if-pen.false c.if-call_room-state.false c.if-notice_room-state.false

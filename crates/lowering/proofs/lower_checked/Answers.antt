@@ -31,9 +31,8 @@ fit-requires c =
 pub returns-in_err-fit : goal.returns-in_err-fit
 unfolding stepped
 returns-in_err-fit c =
-    let a = c.args in
     let p = err_from_is_err_and c.from_residual.result c.from_residual.ensures.1 in
-    rw (p.1, p.2) (not_fitting a.text.now a.state a.tape.now a.calls.now a.notices.now (told c.fit.ensures c.in_err-fit.was) refl)
+    rw (p.1, p.2) (not_fitting _ _ _ _ _ (told c.fit.ensures c.in_err-fit.was) refl)
 
 pub returns : goal.returns
 returns c = c.write-2.ensures

@@ -12,36 +12,30 @@ spelled c = record { short = c.if-text-gt-MAX_LENGTH.false; tape_short = c.if-ta
 pub returns-then-text-gt-MAX_LENGTH : goal.returns-then-text-gt-MAX_LENGTH
 unfolding stepped
 returns-then-text-gt-MAX_LENGTH c =
-    let a = c.args in
-    text_long a.text.now a.state a.tape.now a.calls.now a.notices.now c.if-text-gt-MAX_LENGTH.true refl
+    text_long _ _ _ _ _ c.if-text-gt-MAX_LENGTH.true refl
 
 pub returns-then-tape-gt-MAX_LENGTH : goal.returns-then-tape-gt-MAX_LENGTH
 unfolding stepped
 returns-then-tape-gt-MAX_LENGTH c =
-    let a = c.args in
-    tape_long a.text.now a.state a.tape.now a.calls.now a.notices.now c.if-text-gt-MAX_LENGTH.false c.if-tape-gt-MAX_LENGTH.true refl
+    tape_long _ _ _ _ _ c.if-text-gt-MAX_LENGTH.false c.if-tape-gt-MAX_LENGTH.true refl
 
 pub returns-in-Some : goal.returns-in-Some
 unfolding stepped
 returns-in-Some c =
-    let a = c.args in
-    ill_formed a.text.now a.state a.tape.now a.calls.now a.notices.now _ c.if-text-gt-MAX_LENGTH.false c.if-tape-gt-MAX_LENGTH.false
+    ill_formed _ _ _ _ _ _ c.if-text-gt-MAX_LENGTH.false c.if-tape-gt-MAX_LENGTH.false
     (told c.first_ill_formed.ensures c.in-Some.is) refl
 
 pub returns-then-is_forged : goal.returns-then-is_forged
 unfolding stepped
 returns-then-is_forged c =
-    let a = c.args in
-    forged a.text.now a.state a.tape.now a.calls.now a.notices.now (spelled (goal.at.returns-then-is_forged c).In_default)
+    forged _ _ _ _ _ (spelled (goal.at.returns-then-is_forged c).In_default)
     (told c.is_forged.ensures c.if-is_forged.true) refl
 
 pub lower_tape-requires : goal.lower_tape-requires
 lower_tape-requires c =
-    let a = c.args in
-    unforged a.text.now a.state a.tape.now a.calls.now a.notices.now (spelled (goal.at.lower_tape-requires c).In_default) (told c.is_forged.ensures c.if-is_forged.false)
+    unforged _ _ _ _ _ (spelled (goal.at.lower_tape-requires c).In_default) (told c.is_forged.ensures c.if-is_forged.false)
 
 pub returns : goal.returns
 returns c =
-    let a = c.args in
-    judged a.text.now a.state a.tape.now a.calls.now a.notices.now (spelled (goal.at.returns c).In_default)
+    judged _ _ _ _ _ (spelled (goal.at.returns c).In_default)
     (told c.is_forged.ensures c.if-is_forged.false) c.lower_tape.ensures

@@ -13,5 +13,4 @@ returns-in-Ok c = c.lower_checked.ensures
 pub returns-in-Err : goal.returns-in-Err
 unfolding stepped
 returns-in-Err c =
-    let a = c.args in
-    bad_tape a.text.now a.state a.tape.now a.calls.now a.notices.now _ (told c.check_root.ensures c.in-Err.is) refl
+    bad_tape _ _ _ _ _ _ (told c.check_root.ensures c.in-Err.is) refl

@@ -1,15 +1,17 @@
 use native.Mathlib.Omega.{arith}
 use Rattle.lowering.specs.Steps.{stepped}
+use Rattle.std.proofs.Common.{rules}
+use Rattle.pen.proofs.Measuring.{pen_is}
 use Rattle.lowering.proofs.Judging.{few_records}
-use Rattle.lowering.proofs.Running.{written}
+use Rattle.lowering.proofs.Running.{written, comes_as}
 use Rattle.lowering.proofs.write.Goals as goal
 
-pub pen_over-requires : goal.pen_over-requires
-pen_over-requires c =
+pub store_of-requires : goal.store_of-requires
+store_of-requires c =
     few_records c.requires.ready.unforged
 
-pub lower-pen-requires : goal.lower-pen-requires
-lower-pen-requires c = record {
+pub lower-requires : goal.lower-requires
+lower-requires c = record {
   text_len_bound = c.requires.ready.unforged.spelled.short;
   text_value = c.requires.ready.unforged.spelled.formed;
 }
@@ -17,4 +19,6 @@ lower-pen-requires c = record {
 pub returns : goal.returns
 unfolding stepped
 returns c =
-    written c.requires.ready c.requires.notices_value (omega arith) (omega arith) (omega arith) c.pen_over.ensures c.lower-pen.ensures
+    comes_as
+    (written {q = c.lower.new.pen} c.requires.ready c.requires.notices_value (omega arith) (omega arith) (omega arith) (pen_is c.args.state _ _ _ _ c.store_of.ensures) c.lower.ensures.written)
+    (search rules) (search rules)

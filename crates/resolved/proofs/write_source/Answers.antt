@@ -1,12 +1,9 @@
+use Rattle.std.proofs.Common.{rules}
 use Rattle.std.proofs.lemmas.Result.{err_from_is_err_and}
 use Rattle.resolved.specs.Resolved.{judge_source}
 use Rattle.store.proofs.Writing.{state_short, state_refused, state_accepted}
+use Rattle.resolved.proofs.Writing.{source_comes}
 use Rattle.resolved.proofs.write_source.Goals as goal
-
-pub write_fitting-requires : goal.write_fitting-requires
-write_fitting-requires c =
-    let a = c.args in
-    state_short a.text.now a.state c.judge_state.ensures c.in_ok-judge_state.was
 
 pub returns-in_err-judge_state : goal.returns-in_err-judge_state
 unfolding judge_source
@@ -18,5 +15,8 @@ returns-in_err-judge_state c =
 pub returns : goal.returns
 unfolding judge_source
 returns c =
-    let it = state_accepted _ _ c.judge_state.ensures _ _ c.in_ok-judge_state.was (c.write_fitting.ensures.value, c.write_fitting.ensures.target_after) in
+    let a = c.args in
+    let short = state_short a.text.now a.state c.judge_state.ensures c.in_ok-judge_state.was in
+    let it = state_accepted _ _ c.judge_state.ensures _ _ c.in_ok-judge_state.was
+    (source_comes a.text.now a.state.settings.options a.source a.target.now short (λ h. c.write_fitting.ensures _ h (λ o r o' p. search rules))) in
     record { value = it.0; target_after = it.1 }

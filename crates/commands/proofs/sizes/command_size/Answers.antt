@@ -1,21 +1,25 @@
--- The row that was chosen is that of the code's upper half, and a digit of it is the code's size.
-use Prim.Native.Nat.{◌/◌}
-use native.Mathlib.Omega.{arith}
-use Rattle.commands.specs.Sizes.{root_commands, size_in, command_size}
-use Rattle.commands.proofs.Rows.{packed, row_of, at_half, no_row, digit}
+-- `commands::sizes::command_size` meets its contract. Assumes nothing.
+use Rattle.std.proofs.Common.{rules, ◌≡◌, ◌∙◌, sym, ap, ◌<◌, ◌≤◌, get_or, Some, arith}
+use Rattle.text.specs.Utf8.{nonzero}
+use Rattle.commands.specs.Sizes.{command_size}
+use Rattle.commands.specs.declared.sizes.TheConstants.{SIZES}
+use Rattle.commands.proofs.Table.{listed, unlisted, some_size}
 use Rattle.commands.proofs.sizes.command_size.Goals as goal
-use Rattle.commands.proofs.sizes.command_size.Goals.{in-0, in-1, in-2, in-3, in-4, in-5, in_default}
+use Rattle.commands.proofs.sizes.command_size.Goals.{In_ok-size}
 
-pub returns : goal.returns
-unfolding row_of packed command_size size_in root_commands
-returns c =
-    digit c.match-code-shr4.row c.args.code (omega arith)
-    (elim c.match-code-shr4.branch [
-      | in-0 w ↦ at_half 0 w.in-0.is w.row-is
-      | in-1 w ↦ at_half 1 w.in-1.is w.row-is
-      | in-2 w ↦ at_half 2 w.in-2.is w.row-is
-      | in-3 w ↦ at_half 3 w.in-3.is w.row-is
-      | in-4 w ↦ at_half 4 w.in-4.is w.row-is
-      | in-5 w ↦ at_half 5 w.in-5.is w.row-is
-      | in_default w ↦ no_row (c.args.code / 16) (omega arith) (omega arith) w.row-is
-    ])
+pub returns-in_err-size : goal.returns-in_err-size
+returns-in_err-size c = let h : 96 ≤ c.args.code = search rules in c.from_residual.ensures ∙ ap nonzero (unlisted c.args.code h c.ranges.code.fits)
+
+found : (c : In_ok-size) → (c.args.code < 96) × (get_or SIZES c.args.code 0 ≡ c.in_ok-size.field-0.now)
+found c = search rules
+
+pub returns-in-0 : goal.returns-in-0
+returns-in-0 c =
+    let h = found (goal.at.returns-in-0 c).In_ok-size in
+    ap nonzero (sym c.in-0.is ∙ sym h.1 ∙ listed c.args.code h.0)
+
+pub returns-in_default : goal.returns-in_default
+returns-in_default c =
+    let h = found (goal.at.returns-in_default c).In_ok-size in
+    let e : c.in_ok-size.field-0.now ≡ command_size c.args.code = sym h.1 ∙ listed c.args.code h.0 in
+    ap Some (c.from-in_default.ensures ∙ e) ∙ some_size (command_size c.args.code) (λ z. omega (arith, e, z))

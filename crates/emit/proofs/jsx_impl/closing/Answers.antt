@@ -1,11 +1,9 @@
-use native.Mathlib.Omega.{arith}
-use mathlib.Core.Path.{refl}
-use Rattle.definitions.specs.Calls as call
-use Rattle.definitions.specs.Calls.{bare_code, byte_code}
-use Rattle.pen.proofs.Emitting.{called_then}
+use Rattle.std.proofs.Common.{rules, ◌≡◌}
+use Rattle.definitions.specs.Lowering.{pure_byte}
+use Rattle.pen.proofs.Emitting.{produced_then}
 use Rattle.emit.proofs.jsx_impl.closing.Goals as goal
 
 pub returns : goal.returns
-unfolding bare_code byte_code
-returns c = called_then (omega arith) c.put_bare-begun.ensures
-    (called_then (omega arith) c.get_create_element-called.ensures (rw (← c.pure_byte.ensures) c.put_byte.ensures))
+returns c =
+    let e : c.from.result ≡ pure_byte c.args.context.now.settings.now.pure = search rules in
+    produced_then c.put_bare.ensures (produced_then c.get_create_element.ensures (rw (← e) c.put_byte.ensures))

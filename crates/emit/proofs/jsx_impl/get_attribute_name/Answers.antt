@@ -1,15 +1,12 @@
-use native.Mathlib.Omega.{arith}
-use mathlib.Core.Path.{refl}
-use Rattle.definitions.specs.Calls as call
 use Rattle.definitions.specs.Calls.{bare_code, span_code}
 use Rattle.definitions.specs.Lowering.{attribute_name, is_found}
-use Rattle.pen.proofs.Emitting.{called_then}
+use Rattle.pen.proofs.Emitting.{produced_then}
 use Rattle.emit.proofs.jsx_impl.get_attribute_name.Goals as goal
 
 pub returns-in-Some : goal.returns-in-Some
 unfolding attribute_name is_found bare_code
 returns-in-Some c = rw (← c.part.ensures, ← c.in-Some.ensures)
-    (called_then (omega arith) c.put_bare-key.ensures c.put_string.ensures)
+    (produced_then c.put_bare.ensures c.put_string.ensures)
 
 pub returns-in-None : goal.returns-in-None
 unfolding attribute_name is_found span_code

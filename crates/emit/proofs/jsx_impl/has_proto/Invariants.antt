@@ -11,11 +11,11 @@ use Rattle.emit.specs.Contexts.{context_of}
 use Rattle.emit.proofs.Properties.{PropertiesLeft}
 use Rattle.emit.proofs.jsx_impl.has_proto.Given as goal
 
-abbrev pub invariant-loop-rest : goal.invariant-loop-rest
-invariant-loop-rest l =
+abbrev pub invariant-loop-property : goal.invariant-loop-property
+invariant-loop-property l =
     (length l.rest ≤ length l.tape)
     × ((f : ℕ) (ps : List Property) (u : ℕ) → length l.tape < f → properties_at f l.context.text.now l.tape ≡ done ps u
     → PropertiesLeft l.context.text.now l.tape ps u l.rest (λ r. has_proto (context_of l.context) ps ≡ (l.found || has_proto (context_of l.context) r)))
 
-abbrev pub decreases-loop-rest : goal.decreases-loop-rest
-decreases-loop-rest l = length l.rest
+abbrev pub decreases-loop-property : goal.decreases-loop-property
+decreases-loop-property l = length l.rest

@@ -1,9 +1,6 @@
-use native.Mathlib.Omega.{arith}
-use mathlib.Core.Path.{refl}
 use Rattle.definitions.specs.Lowering.{imported}
-use Rattle.definitions.specs.Calls as call
 use Rattle.definitions.specs.Calls.{byte_code}
-use Rattle.pen.proofs.Emitting.{called_then}
+use Rattle.pen.proofs.Emitting.{produced_then}
 use Rattle.emit.proofs.jsx_impl.imported_name.Goals as goal
 
 pub returns-in-Module : goal.returns-in-Module
@@ -13,8 +10,8 @@ returns-in-Module c = rw (c.in-Module.is, ← c.source_of-source.ensures) c.put_
 pub returns-in-Script : goal.returns-in-Script
 unfolding imported byte_code
 returns-in-Script c = rw (c.in-Script.is, ← c.source_of-source.ensures)
-    (called_then (omega arith) c.put_binding-required.ensures c.put_byte.ensures)
+    (produced_then c.put_binding-in-Script.ensures c.put_byte.ensures)
 
 pub returns-in-Classic : goal.returns-in-Classic
 unfolding imported byte_code
-returns-in-Classic c = rw c.in-Classic.is c.put_byte-in-Classic.ensures
+returns-in-Classic c = rw (c.in-Classic.is, ← c.number.ensures) c.put_byte-in-Classic.ensures

@@ -1,10 +1,9 @@
-use Rattle.std.proofs.Common.{◌≡◌, ◌≤◌, ◌+◌, ◌-◌, Ok, length, ap, arith}
-use lib.ListN.{length-drop}
+use Rattle.std.proofs.Common.{◌≡◌, ◌≤◌, ◌+◌, ◌-◌, Ok, length, arith}
 use Rattle.commands.specs.declared.root.ScopeCommand.TheVariants as scopes
 use Rattle.commands.specs.Root.{scope_command}
 use Rattle.text.proofs.Lists.{told, tail_part}
 use Rattle.commands.proofs.Lengths.{scope_fits}
-use Rattle.emit.proofs.Readings.{rest_all, rest_more}
+use Rattle.emit.proofs.Readings.{part_smaller, rest_all, rest_more}
 use Rattle.emit.proofs.RootHeads.{left_begin, left_scope, left_over}
 use Rattle.emit.proofs.jsx_self.is_inside_constructor.Goals as goal
 use Rattle.emit.proofs.jsx_self.is_inside_constructor.Goals.{In-Ok-Scope, in-Ok-Element, in-Ok-Fragment, in-Err}
@@ -19,18 +18,20 @@ pub loop-kind-init : goal.loop-kind-init
 loop-kind-init c = (rest_all c.args.tape.now, λ text f s u h e. left_begin h e)
 
 pub slice_bounds-rest-count : goal.slice_bounds-rest-count
-slice_bounds-rest-count c = fits c
+slice_bounds-rest-count c = fits (goal.at.slice_bounds-rest-count c).In-Ok-Scope
 
 pub slice_bounds-rest-start : goal.slice_bounds-rest-start
-slice_bounds-rest-start c = omega (arith, fits c)
+slice_bounds-rest-start c = omega (arith, fits (goal.at.slice_bounds-rest-start c).In-Ok-Scope)
 
 pub loop-kind-smaller : goal.loop-kind-smaller
-loop-kind-smaller c = omega (arith, fits (goal.at.loop-kind-smaller c).In-Ok-Scope, ap length (tail_part c.loop-kind.rest.now 2), length-drop 2 c.loop-kind.rest.now)
+loop-kind-smaller c = part_smaller c.loop-kind.rest.now 2 (omega arith) (fits (goal.at.loop-kind-smaller c).In-Ok-Scope)
 
 pub loop-kind-preserved : goal.loop-kind-preserved
 loop-kind-preserved c = (
   rest_more 2 c.loop-kind.invariant.0 (fits (goal.at.loop-kind-preserved c).In-Ok-Scope) (tail_part c.loop-kind.rest.now 2),
-  λ text f s u h e. left_scope (c.loop-kind.invariant.1 text f s u h e) (seen (goal.at.loop-kind-preserved c).In-Ok-Scope) (tail_part c.loop-kind.rest.now 2),
+  λ text f s u h e.
+      rw (c.is_constructor.ensures, c.is_function-known.ensures)
+      (left_scope (c.loop-kind.invariant.1 text f s u h e) (seen (goal.at.loop-kind-preserved c).In-Ok-Scope) (tail_part c.loop-kind.rest.now 2)),
 )
 
 pub overflow_sub-result : goal.overflow_sub-result

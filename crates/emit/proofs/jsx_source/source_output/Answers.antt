@@ -1,11 +1,11 @@
 use Rattle.definitions.specs.Lowering.{source_output}
-use Rattle.pen.proofs.Emitting.{called_none}
+use Rattle.pen.proofs.Emitting.{produced_none}
 use Rattle.emit.proofs.jsx_source.source_output.Goals as goal
 
-pub returns-then-context : goal.returns-then-context
+pub returns-then-context-clause-written : goal.returns-then-context-clause-written
 unfolding source_output
-returns-then-context c = λ h l. rw c.if-context.true (c.put_source.ensures h l)
+returns-then-context-clause-written c = λ h k. rw c.if-context.true (c.put_source.ensures.written h k)
 
-pub returns : goal.returns
+pub returns-else-context-clause-written : goal.returns-else-context-clause-written
 unfolding source_output
-returns c = λ h l. rw c.if-context.false (called_none _ _)
+returns-else-context-clause-written c = λ h k. rw c.if-context.false (produced_none _)

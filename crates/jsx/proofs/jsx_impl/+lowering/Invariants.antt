@@ -1,5 +1,6 @@
+use Rattle.pen.specs.Emitting.{Lent}
 use Rattle.emit.specs.Contexts.{context_of}
-use Rattle.jsx.specs.Parts.{KeyWithin}
+use Rattle.jsx.specs.Parts.{is_classic_form, KeyWithin}
 use Rattle.jsx.proofs.Parenting.{KidsLeft}
 use Rattle.definitions.specs.Judging.{done}
 use Rattle.definitions.specs.Tree.{Attributes}
@@ -63,19 +64,18 @@ decreases-behind l = 8 * length l.tape.now
 
 abbrev pub invariant-attrs-loop-rest : goal.invariant-attrs-loop-rest
 invariant-attrs-loop-rest l =
-    (l.i ≤ length l.tape)
+    Lent l.initial.pen l.pen
+    × (l.i ≤ length l.tape)
     × KeyWithin (length l.tape) l.key
-    × (length l.calls ≡ length l.initial.calls)
-    × (length l.notices ≡ length l.initial.notices)
     × ((f d : ℕ) (a : Attributes) (u : ℕ) → length l.tape < f → attributes_at f l.context.text.now d l.tape ≡ done a u
-    → AttributesLeft (context_of l.context) l.classic d l.tape a u l.initial.calls l.calls l.initial.notices l.notices l.initial.next l.next l.i l.some l.key)
+    → AttributesLeft (context_of l.context) (is_classic_form l.form) d l.tape a u l.initial.pen l.pen l.i l.some l.key)
 
 abbrev pub decreases-attrs-loop-rest : goal.decreases-attrs-loop-rest
 decreases-attrs-loop-rest l =
     length l.tape - l.i
 
 abbrev pub invariant-children-loop-rest : goal.invariant-children-loop-rest
-invariant-children-loop-rest l = KidsLeft (context_of l.context) l.tape l.rest l.initial.calls l.calls l.initial.notices l.notices l.initial.next l.next l.count l.spread
+invariant-children-loop-rest l = KidsLeft (context_of l.context) l.tape l.rest l.initial.pen l.pen l.count l.spread
 
 abbrev pub decreases-children-loop-rest : goal.decreases-children-loop-rest
 decreases-children-loop-rest l = length l.rest

@@ -3,7 +3,7 @@ use Rattle.std.proofs.Common.{◌≡◌, Some, refl, sym, ap, ◌∙◌}
 use Rattle.definitions.specs.declared.state.Stepped.{Stepped}
 use Rattle.lowering.specs.Steps.{stepped}
 use Rattle.lowering.specs.RootLists.{Stands}
-use Rattle.lowering.proofs.Judging.{going_after}
+use Rattle.lowering.proofs.Judging.{known, known_judged, going_after}
 use Rattle.lowering.proofs.Listed.{begun, one_more, row_all, row_end, row_refused, row_root}
 use Rattle.lowering.proofs.series.lower_in_turn.Goals as goal
 use Rattle.lowering.proofs.series.lower_in_turn.Goals.{In-Some}
@@ -18,12 +18,16 @@ ahead c = cc
 standing : (c : In-Some) → Stands c.loop-root.rest.now (Some (c.in-Some.root, c.in-Some.behind))
 standing c = rw (ahead c) at c.next_root.ensures.stands
 
+-- text, state and root are in order
+pub lower_tape-requires : goal.lower_tape-requires
+lower_tape-requires c = known _ _ _ _ _ c.loop-root.invariant.3 (standing (goal.at.lower_tape-requires c).In-Some).1
+
 pub loop-root-preserved : goal.loop-root-preserved
 unfolding stepped
 loop-root-preserved c =
-    let o = rw c.in-Ok.is at c.lower_tested.ensures in (
-      c.lower_tested.auto.calls ∙ c.loop-root.invariant.0,
-      c.lower_tested.auto.notices ∙ c.loop-root.invariant.1,
+    let o = rw c.in-Ok.is at (known_judged _ _ _ _ _ c.loop-root.invariant.3 (standing (goal.at.loop-root-preserved c).In-Some).1 c.lower_tape.ensures) in (
+      c.lower_tape.auto.calls ∙ c.loop-root.invariant.0,
+      c.lower_tape.auto.notices ∙ c.loop-root.invariant.1,
       row_root c.loop-root.invariant.2 c.next_root.ensures.roots_by (ahead (goal.at.loop-root-preserved c).In-Some) c.next_root.ensures.stands
           (ap (λ (t : Stepped). t.answer) (sym o.answered)) (one_more _ _ _ o.answered o.called o.noticed),
       going_after _ _ _ _ _ o refl,
@@ -32,7 +36,7 @@ loop-root-preserved c =
 pub returns-in-Err : goal.returns-in-Err
 unfolding stepped
 returns-in-Err c =
-    let o = rw c.in-Err.is at c.lower_tested.ensures in
+    let o = rw c.in-Err.is at (known_judged _ _ _ _ _ c.loop-root.invariant.3 (standing (goal.at.returns-in-Err c).In-Some).1 c.lower_tape.ensures) in
     sym
     (row_refused c.loop-root.invariant.2 c.next_root.ensures.roots_by (ahead (goal.at.returns-in-Err c).In-Some) c.next_root.ensures.stands
     (ap (λ (t : Stepped). t.answer) (sym o.answered)) (one_more _ _ _ o.answered o.called o.noticed))

@@ -2,7 +2,7 @@
 use Rattle.std.proofs.Common.{◌≡◌, Some, refl, sym, ap, ◌∙◌}
 use Rattle.definitions.specs.Series.{World}
 use Rattle.definitions.proofs.Demand3.{demand3}
-use Rattle.lowering.proofs.Listed.{left_all, left_root, left_end}
+use Rattle.lowering.proofs.Listed.{begun, one_more, left_all, left_root, left_end}
 use Rattle.lowering.proofs.series.lower_series.Goals as goal
 
 pub loop-root-init : goal.loop-root-init
@@ -11,9 +11,9 @@ loop-root-init c = (refl, refl, left_all _ _ _)
 pub loop-root-preserved : goal.loop-root-preserved
 loop-root-preserved c =
     let e : c.next_root.result ≡ Some (c.in-Some.root, c.in-Some.behind) = cc in (
-      c.lower_next-last.auto.calls ∙ c.loop-root.invariant.0,
-      c.lower_next-last.auto.notices ∙ c.loop-root.invariant.1,
-      left_root c.loop-root.invariant.2 c.next_root.ensures.roots_by e c.next_root.ensures.stands c.lower_next-last.ensures,
+      c.lower_root.auto.calls ∙ c.loop-root.invariant.0,
+      c.lower_root.auto.notices ∙ c.loop-root.invariant.1,
+      left_root c.loop-root.invariant.2 c.next_root.ensures.roots_by e c.next_root.ensures.stands (one_more _ (begun c.loop-root.last c.loop-root.calls c.loop-root.notices) _ c.lower_root.ensures.value c.lower_root.ensures.calls_after c.lower_root.ensures.notices_after),
     )
 
 pub returns-clause-state_after : goal.returns-clause-state_after

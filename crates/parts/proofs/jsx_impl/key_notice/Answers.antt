@@ -1,16 +1,19 @@
 use Rattle.text.proofs.Lists.{told}
-use Rattle.parts.proofs.Noticing.{unnoticed, noticing, notice_other, notice_valued, notice_key}
-use mathlib.Core.Path.{sym}
+use Rattle.definitions.specs.Lowering.{key_notice}
+use Rattle.pen.proofs.Emitting.{produced_none}
 use Rattle.parts.proofs.jsx_impl.key_notice.Goals as goal
+use Rattle.parts.proofs.jsx_impl.key_notice.Goals.{else-is_key-via-then-is_key+else-not-has_value, else-is_key-via-else-is_key}
 
-pub returns-then-not-is_key : goal.returns-then-not-is_key
-returns-then-not-is_key c = λ f d v u h. noticing (sym (notice_other _ _ v (told c.is_key.ensures c.if-not-is_key.true))) (unnoticed _ _)
+pub returns-then-not-has_value-clause-notice : goal.returns-then-not-has_value-clause-notice
+unfolding key_notice
+returns-then-not-has_value-clause-notice c = λ f d v u h.
+    rw (told c.is_key.ensures c.if-is_key.true, told (c.has_value.ensures f _ d v u h) c.if-not-has_value.true) c.valueless_key.ensures.notice
 
-pub returns-then-has_value : goal.returns-then-has_value
-returns-then-has_value c = λ f d v u h. noticing (sym (notice_valued _ _ v (told (c.has_value.ensures f _ d v u h) c.if-has_value.true))) (unnoticed _ _)
-
-pub returns : goal.returns
-returns c = λ f d v u h.
-    let key = told c.is_key.ensures c.if-not-is_key.false in
-    let valueless = told (c.has_value.ensures f _ d v u h) c.if-has_value.false in
-    noticing (sym (notice_key _ _ v key valueless)) c.valueless_key.ensures
+pub returns-else-is_key-clause-notice : goal.returns-else-is_key-clause-notice
+unfolding key_notice
+returns-else-is_key-clause-notice c = λ f d v u h.
+    elim c.else-is_key.branch [
+      | else-is_key-via-then-is_key+else-not-has_value w ↦
+          rw (told c.is_key.ensures w.if-is_key.true, told (w.has_value.ensures f _ d v u h) w.if-not-has_value.false) (produced_none _)
+      | else-is_key-via-else-is_key w ↦ rw (told c.is_key.ensures w.if-is_key.false) (produced_none _)
+    ]

@@ -1,6 +1,6 @@
-use Rattle.std.proofs.Common.{◌≡◌, Ok, ap, arith}
+use Rattle.std.proofs.Common.{◌≡◌, Ok, ap, ◌∙◌, arith}
 use Rattle.text.proofs.Lists.{told, tail_part}
-use Rattle.std.proofs.Common.{Some, None, length, ◌≤◌}
+use Rattle.std.proofs.Common.{Some, length, ◌≤◌}
 use lib.ListN.{length-drop}
 use Rattle.commands.specs.Root.{member_command}
 use Rattle.commands.proofs.Lengths.{member_fits}
@@ -9,7 +9,7 @@ use Rattle.parts.proofs.jsx_impl.skip_members.Goals as goal
 use Rattle.parts.proofs.jsx_impl.skip_members.Goals.{In-Ok-Some}
 
 seen : (c : In-Ok-Some) → member_command c.loop-rest.rest.now ≡ Ok (Some c.in-Ok-Some.field-0-0)
-seen c = told c.member_command_at.ensures (let e : c.member_command_at.result ≡ Ok (Some c.in-Ok-Some.field-0-0) = cc in e)
+seen c = told c.member_command_at.ensures (c.in-Ok-Some.is ∙ ap Ok c.in-Ok-Some.field-0-is)
 
 fits : (c : In-Ok-Some) → 5 ≤ length c.loop-rest.rest.now
 fits c = member_fits c.loop-rest.rest.now (seen c)
@@ -35,8 +35,7 @@ loop-rest-preserved c =
 
 pub returns-in-Ok-None-clause-read : goal.returns-in-Ok-None-clause-read
 returns-in-Ok-None-clause-read c =
-    let q : c.member_command_at.result ≡ Ok None = cc in
-    λ f text ms u e. omega (arith, members_over (c.loop-rest.invariant.1 f text ms u e) (told c.member_command_at.ensures q), c.loop-rest.invariant.0)
+    λ f text ms u e. omega (arith, members_over (c.loop-rest.invariant.1 f text ms u e) (told c.member_command_at.ensures (c.in-Ok-None.is ∙ ap Ok c.in-Ok-None.field-0-is)), c.loop-rest.invariant.0)
 
 pub returns-in-Err-clause-read : goal.returns-in-Err-clause-read
 returns-in-Err-clause-read c =

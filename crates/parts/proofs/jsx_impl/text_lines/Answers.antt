@@ -1,6 +1,6 @@
 use Rattle.std.proofs.Common.{◌≡◌, Bool, true, false, cond, refl, sym, ◌∙◌, arith}
+use Rattle.parts.proofs.Texts.{text_produced}
 use mir.Val.{bool_byte}
-use Rattle.parts.proofs.Noticing.{text_called_at}
 use Rattle.parts.proofs.jsx_impl.text_lines.Goals as goal
 
 counts : (b : Bool) → bool_byte b ≡ cond b 1 0
@@ -12,5 +12,12 @@ returns-clause-text_written c =
     let texted = c.fixup_whitespace_and_decode_entities-texted.ensures in
     record {
       counted = c.from.ensures ∙ counts _ ∙ sym texted.survives;
-      wrote = text_called_at _ (λ h. omega (arith, c.min-at.ensures)) texted.wrote;
+      wrote = text_produced _ (record { calls = refl; notices = refl }) (λ small. record {
+        wrote = rw (let e : c.min-at.result ≡ c.args.pen.now.call_place = omega (arith, c.min-at.ensures) in e) at texted.wrote;
+        lent = record { calls = refl; notices = refl };
+        notices = refl;
+        notice_place = refl;
+        store = refl;
+        full = refl;
+      });
     }

@@ -6,9 +6,9 @@ use Rattle.definitions.specs.Records.{groups_from}
 use Rattle.records.specs.Grouping.{sources_of, Apart, known_sources}
 use Rattle.records.proofs.groups.groups_of.Given as goal
 
-abbrev pub invariant-loop-record : goal.invariant-loop-record
-invariant-loop-record l = record {
+abbrev pub invariant-loop-bound : goal.invariant-loop-bound
+invariant-loop-bound l = record {
   apart : Apart l.groups;
-  known : known_sources (drop l.record-index l.records) ≡ true;
-  left : groups_from [] l.records ≡ groups_from (sources_of l.groups) (drop l.record-index l.records);
+  known : known_sources (drop l.bound-index l.records) ≡ true;
+  left : groups_from [] l.records ≡ groups_from (sources_of l.groups) (drop l.bound-index l.records);
 }

@@ -1,19 +1,9 @@
-use native.Mathlib.Omega.{arith}
-use Rattle.tape.proofs.Targets.{wrote_nothing, wrote_then}
 use mathlib.Core.List.{append-nil}
+use native.Mathlib.Omega.{arith}
+use Rattle.tape.proofs.Targets.{wrote_then}
 use Rattle.definitions.specs.Records.{group_tape}
 use Rattle.records.specs.Grouping.{sources_of}
 use Rattle.records.proofs.record_tape.put_groups.Goals as goal
-
-pub returns-in-Empty : goal.returns-in-Empty
-unfolding group_tape sources_of
-returns-in-Empty c =
-    rw c.in-Empty.is (wrote_nothing c.args.out.now c.args.at c.requires)
-
-pub returns-in-One : goal.returns-in-One
-unfolding group_tape sources_of
-returns-in-One c =
-    rw (c.in-One.is, append-nil) c.put_group.ensures
 
 pub returns-in-Two : goal.returns-in-Two
 unfolding group_tape sources_of

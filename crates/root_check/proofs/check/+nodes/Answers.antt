@@ -1,4 +1,5 @@
-use Rattle.root_check.proofs.Commands.{command_read, command_unread, value_absent, value_text, value_expression, value_empty, value_element, value_fragment}
+use Rattle.definitions.proofs.Legible.{command_read, command_unread}
+use Rattle.root_check.proofs.Commands.{value_absent, value_text, value_expression, value_empty, value_element, value_fragment}
 use Rattle.root_check.proofs.Commands.{value_unread, opens_bad, opens_element, opens_fragment, element_reach, element_no_name}
 use Rattle.root_check.proofs.Commands.{element_no_attributes, element_whole}
 use Rattle.root_check.proofs.Firsts.{named_within, plain_refused, plain_valued, namespaced_refused, namespaced_valued, attributes_spread, attributes_literal}

@@ -1,4 +1,5 @@
-use Rattle.root_check.proofs.Commands.{command_read, command_unread, name_plain, name_namespaced, identifier_refused, identifier_behind, name_this, name_unread}
+use Rattle.definitions.proofs.Legible.{command_read, command_unread}
+use Rattle.root_check.proofs.Commands.{name_plain, name_namespaced, identifier_refused, identifier_behind, name_this, name_unread}
 use Rattle.root_check.proofs.Firsts.{named_within}
 use Rattle.root_check.proofs.Behind.{within_good}
 use Rattle.commands.proofs.Lengths.{name_fits}

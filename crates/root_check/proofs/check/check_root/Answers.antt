@@ -1,5 +1,5 @@
 use Rattle.root_check.proofs.Entry.{root_refused, root_more, root_all, root_unread}
-use Rattle.root_check.proofs.Commands.{command_read, command_unread}
+use Rattle.definitions.proofs.Legible.{command_read, command_unread}
 use Rattle.root_check.proofs.Behind.{part_reach}
 use Rattle.root_check.proofs.Readings.{scopes_reads}
 use Rattle.commands.proofs.Lengths.{heritage_fits}

@@ -1,12 +1,12 @@
 use Rattle.root_check.proofs.Entry.{scope_room, scopes_on, scopes_unread, scopes_element_reach, scopes_fragment_reach}
 use Rattle.root_check.proofs.Entry.{scopes_element, scopes_fragment}
-use Rattle.root_check.proofs.Commands.{command_read, command_unread}
+use Rattle.definitions.proofs.Legible.{command_read, command_unread}
 use Rattle.root_check.proofs.Readings.{unread_within}
 use Rattle.root_check.proofs.Loops.{passed_none}
 use Rattle.root_check.proofs.Behind.{part, part_length}
 use Rattle.commands.specs.declared.root.ScopeCommand.TheVariants as scopes
-use Rattle.std.specs.Prelude.{Ok}
-use Rattle.root_check.specs.declared.check.TapeError.{TapeError}
+use Rattle.std.specs.Prelude.{Bool, ◌||◌, Ok}
+use Rattle.tape.specs.declared.refusal.TapeError.{TapeError}
 use mathlib.Core.Path.{◌≡◌, refl, ap}
 use native.Mathlib.Omega.{arith}
 use Rattle.root_check.proofs.check.check_scopes.Goals as goal
@@ -24,7 +24,7 @@ pub loop-kind-preserved : goal.loop-kind-preserved
 loop-kind-preserved c =
     let e : c.legible.result ≡ Ok (scopes.Scope c.in-Ok-Scope.kind) = cc in
     let stands = command_read _ c.scope_command_at.ensures c.legible.ensures e refl in
-    scopes_on _ _ _ c.loop-kind.invariant _ stands refl
+    scopes_on _ _ _ c.loop-kind.invariant _ stands (ap (λ (b : Bool). c.loop-kind.found || b) c.is_function-found.ensures)
 
 pub open_element-requires : goal.open_element-requires
 open_element-requires c =

@@ -1,4 +1,4 @@
-use Rattle.root_check.proofs.Commands.{command_read, command_unread}
+use Rattle.definitions.proofs.Legible.{command_read, command_unread}
 use Rattle.root_check.proofs.Firsts.{members_member, members_other, members_unread}
 use Rattle.std.specs.Prelude.{Err}
 use Rattle.std.proofs.Common.{rules}

@@ -3,9 +3,9 @@ use Rattle.std.proofs.Common.{◌≡◌, ◌∙◌, ◌<◌, None, sym, ap, leng
 use Rattle.std.specs.Option.{option_map}
 use Rattle.std.proofs.lemmas.Iterator.{YieldsList-from_slice}
 use Rattle.std.proofs.lemmas.Iterator.Search.{position_from_yields_List}
-use borrow.Author.Tests.{le-leb}
+use borrow.Author.Tests.{le-leb, ltb-false}
 use Rattle.text.specs.Bytes.{find, over_ascii}
-use Rattle.text.proofs.Lists.{tail_part}
+use Rattle.text.proofs.Lists.{told, tail_part}
 use Rattle.text.proofs.Searching.{find_past, find_hit, find_end, find_further, position_is}
 use Rattle.text.proofs.bytes.find_over_ascii.Goals as goal
 use Rattle.text.proofs.bytes.find_over_ascii.Goals.{After-position}
@@ -13,10 +13,10 @@ use Rattle.text.proofs.bytes.find_over_ascii.Goals.{After-position}
 pub returns-in_err-first : goal.returns-in_err-first
 returns-in_err-first c = c.from_residual.ensures ∙ sym (find_end over_ascii c.args.s.now 0 (search rules))
 
-pub returns-then-branch-ge-ASCII_END : goal.returns-then-branch-ge-ASCII_END
-returns-then-branch-ge-ASCII_END c =
+pub returns-then-not-is_ascii : goal.returns-then-not-is_ascii
+returns-then-not-is_ascii c =
     let h : (0 < length c.args.s.now) × (get_or c.args.s.now 0 0 ≡ c.in_ok-first.field-0.now) = search rules in
-    sym (find_hit over_ascii c.args.s.now 0 h.0 (le-leb 0x80 (get_or c.args.s.now 0 0) (omega arith)))
+    sym (find_hit over_ascii c.args.s.now 0 h.0 (le-leb 0x80 (get_or c.args.s.now 0 0) (omega (arith, ltb-false c.in_ok-first.field-0.now 0x80 (told c.is_ascii.ensures c.if-not-is_ascii.true)))))
 
 -- the search goes on behind the blocks
 found : (c : After-position)

@@ -1,50 +1,59 @@
--- `text::utf8::first_ill_formed` meets its contract. The loop's invariant: the walk has come to place i. Assumes nothing.
-use Prim.Native.Nat.{◌<◌, ◌+◌}
-use native.Mathlib.Omega.{arith}
-use mathlib.Core.Path.{◌∙◌, refl, sym}
-use lib.ListN.{length}
+-- `text::utf8::first_ill_formed` meets its contract. The loop's invariant: the walk has come to what is left. Assumes nothing.
+use Rattle.std.proofs.Common.{◌∙◌, ◌<◌, ◌≤◌, ℕ, ◌-◌, List, sym, length, take, drop, arith, length-take, length-drop}
 use Rattle.text.proofs.Lists.{told}
-use Rattle.text.proofs.Rows.{no_width, some_width}
-use Rattle.text.proofs.Walking.{Come, come_start, come_plain, come_run, come_stop, come_step}
+use Rattle.text.proofs.Walking.{Left, left_start, left_plain, left_run, left_stop, left_step}
 use Rattle.text.proofs.utf8.first_ill_formed.Goals as goal
 use Rattle.text.proofs.utf8.first_ill_formed.Goals.{In_ok-at, In-Some}
 
 pub loop-at-init : goal.loop-at-init
-loop-at-init c = come_start _
+loop-at-init c = left_start _
 
 pub returns-in_err-at : goal.returns-in_err-at
-returns-in_err-at c = c.from_residual.ensures ∙ sym (come_plain _ _ c.loop-at.invariant _ c.find_over_ascii.ensures c.in_err-at.was)
+returns-in_err-at c = c.from_residual.ensures ∙ sym (left_plain _ _ c.loop-at.invariant (told c.find_over_ascii.ensures c.in_err-at.was))
 
--- a byte over 7F stands behind the run
-ran : (c : In_ok-at) → (c.loop-at.i + c.in_ok-at.field-0 < length c.args.s.now) × Come c.args.s.now (c.loop-at.i + c.in_ok-at.field-0)
-ran c = come_run _ _ c.loop-at.invariant _ c.find_over_ascii.ensures _ c.in_ok-at.was
+-- what is left from the next byte over 7F on
+abbrev high : In_ok-at → List ℕ
+high c = take (length c.loop-at.rest.now - c.in_ok-at.at) (drop c.in_ok-at.at c.loop-at.rest.now)
 
-pub overflow_add-at : goal.overflow_add-at
-overflow_add-at c = omega (arith, (ran (goal.at.overflow_add-at c).In_ok-at).0)
+ran : (c : In_ok-at) → (c.in_ok-at.at < length c.loop-at.rest.now) × Left c.args.s.now (high c)
+ran c = left_run _ _ c.loop-at.invariant _ (told c.find_over_ascii.ensures c.in_ok-at.was)
 
-pub slice_bounds-width-count : goal.slice_bounds-width-count
-slice_bounds-width-count c = omega (arith, (ran (goal.at.slice_bounds-width-count c).In_ok-at).0)
+some : (c : In_ok-at) → 0 < length (high c)
+some c = omega (arith, (ran c).0, length-take (length c.loop-at.rest.now - c.in_ok-at.at) (drop c.in_ok-at.at c.loop-at.rest.now), length-drop c.in_ok-at.at c.loop-at.rest.now)
 
-pub slice_bounds-width-start : goal.slice_bounds-width-start
-slice_bounds-width-start c = omega (arith, (ran (goal.at.slice_bounds-width-start c).In_ok-at).0)
+pub slice_bounds-rest-count : goal.slice_bounds-rest-count
+slice_bounds-rest-count c = omega (arith, (ran (goal.at.slice_bounds-rest-count c).In_ok-at).0)
+
+pub slice_bounds-rest-start : goal.slice_bounds-rest-start
+slice_bounds-rest-start c = omega (arith, (ran (goal.at.slice_bounds-rest-start c).In_ok-at).0)
 
 pub returns-in_default : goal.returns-in_default
 returns-in_default c =
-    let p = ran (goal.at.returns-in_default c).In_ok-at in
-    sym (come_stop _ _ p.1 0 (sym (no_width _ (told c.width.ensures c.in_default.is))) p.0 refl)
+    let i = (goal.at.returns-in_default c).In_ok-at in
+    sym (left_stop _ (high i) (ran i).1 (some i) (told c.width.ensures c.in_default.is))
 
--- a sequence stands there, and the walk comes past it
-passed : (c : In-Some) → (0 < c.in-Some.w) × Come c.args.s.now (c.loop-at.i + c.in_ok-at.field-0 + c.in-Some.w)
+-- a sequence stands there
+passed : (c : In-Some)
+    → let i = (goal.at.In-Some c).In_ok-at in
+    (0 < c.in-Some.w) × (c.in-Some.w ≤ length (high i)) × Left c.args.s.now (take (length (high i) - c.in-Some.w) (drop c.in-Some.w (high i)))
 passed c =
-    let p = come_run _ _ c.loop-at.invariant _ c.find_over_ascii.ensures _ c.in_ok-at.was in
-    let e = some_width _ _ (told c.width.ensures c.in-Some.is) in
-    (e.1, come_step _ _ p.1 _ (sym e.0) p.0 (λ z. omega (arith, z, e.1)))
+    let i = (goal.at.In-Some c).In_ok-at in
+    left_step _ (high i) (ran i).1 (some i) _ (told c.width.ensures c.in-Some.is)
 
-pub overflow_add-i : goal.overflow_add-i
-overflow_add-i c = omega (arith, (passed (goal.at.overflow_add-i c).In-Some).1.inside)
+pub slice_bounds-rest-count-in-loop-at : goal.slice_bounds-rest-count-in-loop-at
+slice_bounds-rest-count-in-loop-at c = (passed (goal.at.slice_bounds-rest-count-in-loop-at c).In-Some).1
+
+pub slice_bounds-rest-start-in-loop-at : goal.slice_bounds-rest-start-in-loop-at
+slice_bounds-rest-start-in-loop-at c = (passed (goal.at.slice_bounds-rest-start-in-loop-at c).In-Some).1
 
 pub loop-at-smaller : goal.loop-at-smaller
-loop-at-smaller c = omega (arith, (passed (goal.at.loop-at-smaller c).In-Some).0, (passed (goal.at.loop-at-smaller c).In-Some).1.inside)
+loop-at-smaller c =
+    let i = (goal.at.loop-at-smaller c).In_ok-at in
+    let p = passed (goal.at.loop-at-smaller c).In-Some in
+    let r = c.loop-at.rest.now in
+    let a = c.in_ok-at.at in
+    let w = c.in-Some.w in
+    omega (arith, p.0, p.1, length-take (length (high i) - w) (drop w (high i)), length-drop w (high i), length-take (length r - a) (drop a r), length-drop a r)
 
 pub loop-at-preserved : goal.loop-at-preserved
-loop-at-preserved c = (passed (goal.at.loop-at-preserved c).In-Some).1
+loop-at-preserved c = (passed (goal.at.loop-at-preserved c).In-Some).2

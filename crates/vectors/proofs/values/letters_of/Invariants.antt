@@ -8,6 +8,3 @@ use Rattle.vectors.proofs.values.letters_of.Given as goal
 
 abbrev pub invariant-loop-i : goal.invariant-loop-i
 invariant-loop-i l = (l.i ≤ length l.out) × (length l.out ≡ length l.initial.out) × (spelled (length l.initial.out) l.initial.left [] ≡ spelled l.i l.left (drop l.i l.out))
-
-abbrev pub decreases-loop-i : goal.decreases-loop-i
-decreases-loop-i l = l.i

@@ -1,9 +1,0 @@
-use Rattle.std.proofs.Common.{ℕ, [], ◌∷◌, refl, ap, sym}
-use Rattle.definitions.specs.Store.{bound_by, numbered}
-use Rattle.definitions.specs.Calls.{bytes_of}
-use Rattle.pen.proofs.Commands.{called_plain}
-use Rattle.pen.proofs.pen.put_byte.Goals as goal
-
-pub returns : goal.returns
-unfolding bound_by numbered bytes_of
-returns c = called_plain (λ js. refl) (λ js. ap (λ (b : ℕ). b ∷ c.args.n ∷ []) (sym c.code.ensures)) c.put_two.ensures

@@ -1,5 +1,0 @@
-use lib.ListN.{length}
-use Rattle.settings_test.proofs.read_job.Given as goal
-
-abbrev pub decreases-loop-left : goal.decreases-loop-left
-decreases-loop-left l = length l.left
