@@ -1,5 +1,5 @@
 #!/usr/bin/env python3
-"""Operands are read and written without a product, quotient, remainder or mask (docs/DECISIONS.md, 60): python3 tests/operands.py
+"""Operands are read and written by shifts and or alone (docs/DECISIONS.md, 60): python3 tests/operands.py
 
 Tells every line of code in the crate `tape` that has a product, a quotient, a remainder or a mask. Contracts keep the product form, which is the definition.
 """
@@ -23,7 +23,7 @@ def main():
                         found.append(f"{path}:{number}: {line.strip()}")
     if found or not lines:
         raise SystemExit("\n".join(found) or "no code was found")
-    print(f"{lines} lines of code in tape without a product, quotient, remainder or mask")
+    print(f"{lines} lines of code in tape: operands by shifts and or alone")
 
 
 if __name__ == "__main__":

@@ -1,6 +1,8 @@
 -- The pragma search, from at sign to at sign.
 --     jsx_here, jsx_absent   four bytes as a number tell whether they are `@jsx`
 --     seek_short             fewer than four bytes hold no pragma
+--     Scanned                the keyword isn't ended before a place; each byte of it is a law from Scanned to Scanned (scan_on) or to where it ends
+--                            (scan_hit, scan_none)
 --     Reach                  the search from a place is the one that goes on at a later place; each event of the loop is a law from Reach to
 --                            Reach (reject, unknown) or to the answer (none, cut, no_word, known)
 --     seek_after             a pragma is found behind the place where the search begins, and within the comment
@@ -20,7 +22,7 @@ use Rattle.text.specs.Bytes.{ascii, same}
 use Rattle.tape.specs.Numbers.{u32_at}
 use Rattle.text.proofs.Lists.{drop_one}
 use Rattle.text.proofs.Comparing.{same_lengths, same_eq}
-use Rattle.text.proofs.Searching.{find_at}
+use Rattle.text.proofs.Searching.{find_at, find_hit, find_step, find_end}
 use Rattle.comments.specs.declared.PragmaType.{PragmaType}
 use Rattle.comments.specs.declared.PragmaType.TheVariants.{Jsx, JsxRuntime, JsxImportSource, JsxFrag}
 use Rattle.comments.specs.Searches.{stands, begins, four_at, known_for}
@@ -93,6 +95,24 @@ module _ (c : List ℕ) (i sign : ℕ) where
   pub counted : stands c i sign ≡ true → begins c sign ≡ true → counts c i sign ≡ true
   unfolding stands begins counts
   counted e f = rw (e, f)
+
+-- ---- the keyword that begins at `first` isn't ended before `end`
+pub record Scanned (c : List ℕ) (first end : ℕ) : Type 0 where
+  pub behind : first ≤ end
+  pub same : place_from is_blank c first ≡ place_from is_blank c end
+
+pub scan : (c : List ℕ) (first : ℕ) → Scanned c first first
+scan c first = record { behind = omega arith; same = refl }
+
+module _ (c : List ℕ) (first end : ℕ) (s : Scanned c first end) where
+  pub scan_on : end < length c → is_blank (get_or c end 0) ≡ false → Scanned c first (end + 1)
+  scan_on h e = record { behind = omega (arith, s.behind); same = s.same ∙ find_step is_blank c end h e }
+
+  pub scan_hit : end < length c → is_blank (get_or c end 0) ≡ true → place_from is_blank c first ≡ Some end
+  scan_hit h e = s.same ∙ find_hit is_blank c end h e
+
+  pub scan_none : length c ≤ end → place_from is_blank c first ≡ None
+  scan_none h = s.same ∙ find_end is_blank c end h
 
 -- ---- the search that begins at `start` goes on at i, with enough turns left
 pub record Reach (c : List ℕ) (start i : ℕ) : Type 0 where

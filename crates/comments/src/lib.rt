@@ -109,26 +109,41 @@ fn find_keyword(comment: &[u8], start: usize) -> Option<(PragmaType, usize)>
     ensures { search_for result ≡ seek (length comment.now) comment.now start }
 {
     let mut from = start;
-    // kept: the two refusals of an at sign go on with the search, as the original's labelled loop does
-    'signs: loop {
-        let sign = place_from(comment, from, |b| b == b'@')?;
+    // kept: the refusals of an at sign go on with the search, as the original's labelled loop does
+    let kind = 'signs: loop {
+        let Some(sign) = place_from(comment, from, |b| b == b'@') else {
+            return None;
+        };
         let counts = stands_well(comment, from, sign);
         // what is left begins behind the at sign, whether it counts or not
         from = sign + 1;
         if !counts {
             continue 'signs;
         }
-        let bytes = next4(comment, sign)?;
+        let Some(bytes) = next4(comment, sign) else {
+            return None;
+        };
         if bytes != u32::from_le_bytes(*b"@jsx") {
             continue 'signs;
         }
         let first = sign + 4;
-        let end = place_from(comment, first, is_blank)?;
+        let mut end = first;
+        let word = loop {
+            let Some(&b) = comment.get(end) else {
+                return None;
+            };
+            if is_blank(b) {
+                break &comment[first..end];
+            }
+            end += 1;
+        };
         from = end + 1;
-        if let Some(kind) = keyword_of(&comment[first..end]) {
-            return Some((kind, from));
-        }
-    }
+        let Some(kind) = keyword_of(word) else {
+            continue 'signs;
+        };
+        break 'signs kind;
+    };
+    Some((kind, from))
 }
 
 // The part of what is left up to white space.
@@ -143,8 +158,12 @@ fn value_of(rest: &[u8]) -> &[u8]
 fn find_jsx_pragma<'a>(comment: &'a [u8], at: usize) -> Option<Pragma<'a>>
     ensures { pragma_for result ≡ pragma_from comment.now at }
 {
-    let (kind, from) = find_keyword(comment, at)?;
-    let start = place_from(comment, from, |b| !is_blank(b))?;
+    let Some((kind, from)) = find_keyword(comment, at) else {
+        return None;
+    };
+    let Some(start) = place_from(comment, from, |b| !is_blank(b)) else {
+        return None;
+    };
     let value = value_of(&comment[start..]);
     if value.is_empty() {
         return None;

@@ -18,7 +18,7 @@ use Rattle.definitions.specs.Judging.{Parsed, done, map, from}
 use Rattle.definitions.specs.Reading.{members_by, members_at}
 use Rattle.definitions.specs.Lowering.{Output, put_span, members}
 use Rattle.pen.specs.declared.pen.Pen.{Pen}
-use Rattle.pen.specs.Emitting.{Produced}
+use Rattle.pen.specs.Emitting.{Short, Produced}
 use Rattle.emit.proofs.Readings.{stopped, named_done, map_done, from_done}
 use Rattle.pen.proofs.Emitting.{produced_none, produced_then, produced_as}
 
@@ -49,10 +49,10 @@ pub record MembersLeft (text : List ℕ) (ms : List Span) (t : List ℕ) (p p' :
   pub whole : before ++ members left ≡ members ms
   pub wrote : Produced before p p'
 
-pub members_begin : {text t : List ℕ} {ms : List Span} {f u : ℕ} (p : Pen) → length t < f → members_at f text t ≡ done ms u
+pub members_begin : {text t : List ℕ} {ms : List Span} {f u : ℕ} {p : Pen} → Short p → length t < f → members_at f text t ≡ done ms u
     → MembersLeft text ms t p p
-members_begin {f = f} {u} p h e =
-    record { turns = f; left = _; size = u; before = []; enough = h; reads = e; whole = refl; wrote = produced_none p }
+members_begin {f = f} {u} short h e =
+    record { turns = f; left = _; size = u; before = []; enough = h; reads = e; whole = refl; wrote = produced_none short }
 
 module _ {text t : List ℕ} {ms : List Span} {p p₁ : Pen} (l : MembersLeft text ms t p p₁) where
   at : {c : Result (Option Span) CommandError} → member_command t ≡ c → Turn l.turns text t c l.left l.size

@@ -26,7 +26,7 @@ use Rattle.definitions.specs.Tree.{Property, unnamed, prop_name}
 use Rattle.definitions.specs.Reading.{properties_by, properties_at}
 use Rattle.definitions.specs.Lowering.{Context, Output, put_over, is_proto, has_proto, carried}
 use Rattle.pen.specs.declared.pen.Pen.{Pen}
-use Rattle.pen.specs.Emitting.{Produced}
+use Rattle.pen.specs.Emitting.{Short, Produced}
 use Rattle.emit.specs.declared.jsx_impl.Ahead.{Ahead}
 use Rattle.emit.specs.Properties.{property_of, PropertyAt, NextIs, Shorter}
 use Rattle.emit.proofs.Readings.{stopped, spanned_done, map_done, from_done}
@@ -174,8 +174,8 @@ pub record Carried (ps : List Property) (p p' : Pen) (rest : List Property) : Ty
   pub whole : before ++ carried rest ≡ carried ps
   pub wrote : Produced before p p'
 
-pub carried_begin : (ps : List Property) (p : Pen) → Carried ps p p ps
-carried_begin ps p = record { before = []; whole = refl; wrote = produced_none p }
+pub carried_begin : (ps : List Property) {p : Pen} → Short p → Carried ps p p ps
+carried_begin ps short = record { before = []; whole = refl; wrote = produced_none short }
 
 -- each property is carried over by its expression
 carried_first : (e : ℕ) (name : Option Span) (r : List Property) → put_over with_expression.Carried e ++ carried r ≡ carried (property_of e name ∷ r)

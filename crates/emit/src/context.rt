@@ -4,11 +4,18 @@ ghost use Rattle.text.specs.Utf8.{first_ill};
 
 use definitions::options::Settings;
 
+// Over any text.
 #[derive(Clone, Copy)]
 pub struct Context<'a> {
     pub text: &'a [u8],
     pub settings: &'a Settings,
     pub self_allowed: bool,
-    pub ghost text_short: { length text.now ≤ 65535 },
-    pub ghost text_formed: { first_ill text.now ≡ None },
+}
+
+// Over a text that is well formed and no longer than one may be, as lowering text children asks.
+#[derive(Clone, Copy)]
+pub struct Sound<'a> {
+    pub context: Context<'a>,
+    pub ghost text_short: { length context.text.now ≤ 65535 },
+    pub ghost text_formed: { first_ill context.text.now ≡ None },
 }

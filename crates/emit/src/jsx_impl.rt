@@ -1,14 +1,15 @@
 // The parts of a call (jsx_impl.rs): names, attribute names, callees, object literals.
-ghost use Rattle.std.specs.Prelude.{◌≡◌, cond, List, [], ◌++◌, ℕ, ◌≤◌, ◌<◌, length};
+ghost use Rattle.std.specs.Prelude.{◌≡◌, Bool, cond, List, [], ◌++◌, ℕ, ◌≤◌, ◌<◌, length};
 ghost use Rattle.text.specs.declared.spans.Span as spans;
 ghost use Rattle.definitions.specs.declared.call_tape.Bare.TheVariants as bare;
 ghost use Rattle.definitions.specs.declared.call_tape.WithByte.TheVariants as with_byte;
+ghost use Rattle.definitions.specs.declared.options.Settings as settings;
 ghost use Rattle.definitions.specs.Judging.{done};
 ghost use Rattle.definitions.specs.Tree.{Name, Property};
 ghost use Rattle.definitions.specs.Reading.{members_at, name_at, properties_at};
 ghost use Rattle.definitions.specs.Lowering.{put, put_byte, members, lower_name, imported, callee_named, fragment_tag, attribute_name, is_proto, has_proto, carried, lower_literal, pure_byte, automatic_name, development, static_children, no_key};
 ghost use Rattle.pen.specs.Emitting.{Lent, Produced};
-ghost use Rattle.emit.specs.Contexts.{context_of};
+ghost use Rattle.emit.specs.Contexts.{over_text, over_settings};
 ghost use Rattle.emit.specs.Properties.{property_of, NextIs, Shorter};
 ghost use Rattle.emit.specs.Pragmas.{pragma_number};
 
@@ -30,6 +31,7 @@ use text::spans::{Span, part};
 // The properties of a name: what they are members of has been written.
 fn transform_jsx_member_expression(tape: &[u8], pen: &mut Pen<'_>)
     ensures lent { Lent pen.old pen.new }
+    ensures notices_stay { pen.new.notices.now ≡ pen.old.notices.now }
     ensures written { (text : List ℕ) (f : ℕ) (ms : List spans.Span) (u : ℕ) → length tape.now < f → members_at f text tape.now ≡ done ms u → Produced (members ms) pen.old pen.new }
 {
     let mut rest = tape;
@@ -49,7 +51,7 @@ fn transform_jsx_member_expression(tape: &[u8], pen: &mut Pen<'_>)
 // The tag of an element, whose name stands at the front of `tape`. Of a tape that does not read nothing is promised.
 pub fn transform_element_name(context: &Context<'_>, tape: &[u8], pen: &mut Pen<'_>)
     ensures lent { Lent pen.old pen.new }
-    ensures written { (text : List ℕ) (f : ℕ) (n : Name) (u : ℕ) → length tape.now < f → name_at f text tape.now ≡ done n u → Produced (lower_name (context_of context.now) n) pen.old pen.new }
+    ensures written { (t : List ℕ) (b : Bool) (text : List ℕ) (f : ℕ) (n : Name) (u : ℕ) → length tape.now < f → name_at f text tape.now ≡ done n u → Produced (lower_name (over_settings context.now t b) n) pen.old pen.new }
 {
     match name_command_at(tape) {
         Ok(NameCommand::Plain(name)) => pen.put_string(name),
@@ -73,7 +75,9 @@ pub fn transform_element_name(context: &Context<'_>, tape: &[u8], pen: &mut Pen<
 
 // An attribute's name: a name with a hyphen is no identifier, so it is a string.
 pub fn get_attribute_name(context: &Context<'_>, span: Span, pen: &mut Pen<'_>)
-    ensures { Produced (attribute_name (context_of context.now) span) pen.old pen.new }
+    ensures lent { Lent pen.old pen.new }
+    ensures notices_stay { pen.new.notices.now ≡ pen.old.notices.now }
+    ensures written { (s : settings.Settings) (b : Bool) → Produced (attribute_name (over_text context.now s b) span) pen.old pen.new }
 {
     match find_byte(part(context.text, span), b'-') {
         Some(_) => {
@@ -117,7 +121,7 @@ fn next_property(tape: &[u8]) -> Option<Ahead<'_>>
 }
 
 fn is_proto(context: &Context<'_>, name: Option<Span>) -> bool
-    ensures { (e : ℕ) → result ≡ is_proto (context_of context.now) (property_of e name) }
+    ensures { (s : settings.Settings) (b : Bool) (e : ℕ) → result ≡ is_proto (over_text context.now s b) (property_of e name) }
 {
     match name {
         Some(span) => same(part(context.text, span), b"__proto__"),
@@ -129,7 +133,7 @@ fn is_proto(context: &Context<'_>, name: Option<Span>) -> bool
 // tape that does not read nothing is promised but that no more than the tape is used.
 pub fn has_proto(context: &Context<'_>, tape: &[u8]) -> Used<bool>
     ensures used_in_bounds { result.used ≤ length tape.now }
-    ensures found_value { (f : ℕ) (ps : List Property) (u : ℕ) → length tape.now < f → properties_at f context.now.text.now tape.now ≡ done ps u → (result.value ≡ has_proto (context_of context.now) ps) × (result.used ≡ u) }
+    ensures found_value { (s : settings.Settings) (b : Bool) (f : ℕ) (ps : List Property) (u : ℕ) → length tape.now < f → properties_at f context.now.text.now tape.now ≡ done ps u → (result.value ≡ has_proto (over_text context.now s b) ps) × (result.used ≡ u) }
 {
     let mut found = false;
     let mut rest = tape;
@@ -146,6 +150,7 @@ pub fn has_proto(context: &Context<'_>, tape: &[u8]) -> Used<bool>
 // An object literal's properties, each carried over.
 fn carry_over(tape: &[u8], pen: &mut Pen<'_>)
     ensures lent { Lent pen.old pen.new }
+    ensures notices_stay { pen.new.notices.now ≡ pen.old.notices.now }
     ensures written { (text : List ℕ) (f : ℕ) (ps : List Property) (u : ℕ) → length tape.now < f → properties_at f text tape.now ≡ done ps u → Produced (carried ps) pen.old pen.new }
 {
     let mut rest = tape;
@@ -159,8 +164,9 @@ fn carry_over(tape: &[u8], pen: &mut Pen<'_>)
 // which would mean another thing in the properties. Gives what the properties take.
 pub fn lower_literal(context: &Context<'_>, e: u16, tape: &[u8], pen: &mut Pen<'_>) -> usize
     ensures lent { Lent pen.old pen.new }
+    ensures notices_stay { pen.new.notices.now ≡ pen.old.notices.now }
     ensures used_in_bounds { result ≤ length tape.now }
-    ensures used_value { (f : ℕ) (ps : List Property) (u : ℕ) → length tape.now < f → properties_at f context.now.text.now tape.now ≡ done ps u → (result ≡ u) × Produced (lower_literal (context_of context.now) e ps) pen.old pen.new }
+    ensures used_value { (s : settings.Settings) (b : Bool) (f : ℕ) (ps : List Property) (u : ℕ) → length tape.now < f → properties_at f context.now.text.now tape.now ≡ done ps u → (result ≡ u) × Produced (lower_literal (over_text context.now s b) e ps) pen.old pen.new }
 {
     let proto = has_proto(context, tape);
     if proto.value {
@@ -188,7 +194,8 @@ impl Pragma {
 
 // A name of one of the two sources; in classic settings a pragma stands for it.
 fn imported_name(mode: Mode, name: u8, pragma: Pragma, pen: &mut Pen<'_>)
-    ensures { Produced (imported mode name (pragma_number pragma)) pen.old pen.new }
+    ensures notices_stay { pen.new.notices.now ≡ pen.old.notices.now }
+    ensures written { Produced (imported mode name (pragma_number pragma)) pen.old pen.new }
 {
     let source = source_of(name);
     match mode {
@@ -204,14 +211,16 @@ fn imported_name(mode: Mode, name: u8, pragma: Pragma, pen: &mut Pen<'_>)
 // The callee of that name.
 // kept: a name is a number of the record tape, as in `Import` and in the definition; these functions take any, and an enum would ask more of their callers
 pub fn get_create_element(mode: Mode, name: u8, pen: &mut Pen<'_>)
-    ensures { Produced (callee_named mode name) pen.old pen.new }
+    ensures notices_stay { pen.new.notices.now ≡ pen.old.notices.now }
+    ensures written { Produced (callee_named mode name) pen.old pen.new }
 {
     imported_name(mode, name, Pragma::Callee, pen);
 }
 
 // A fragment's tag.
 pub fn get_fragment(mode: Mode, pen: &mut Pen<'_>)
-    ensures { Produced (fragment_tag mode) pen.old pen.new }
+    ensures notices_stay { pen.new.notices.now ≡ pen.old.notices.now }
+    ensures written { Produced (fragment_tag mode) pen.old pen.new }
 {
     imported_name(mode, records::FRAGMENT, Pragma::Fragment, pen);
 }
@@ -219,7 +228,7 @@ pub fn get_fragment(mode: Mode, pen: &mut Pen<'_>)
 // The name of an automatic call's callee: jsxDEV in development, jsxs for two children or more, else jsx.
 // kept: a name is a number, as for `get_create_element`
 pub fn automatic_name(context: &Context<'_>, count: usize) -> u8
-    ensures { result ≡ automatic_name (context_of context.now) count }
+    ensures { (t : List ℕ) (b : Bool) → result ≡ automatic_name (over_settings context.now t b) count }
 {
     if context.settings.options.flags.development {
         return records::JSX_DEV;
@@ -233,7 +242,8 @@ pub fn automatic_name(context: &Context<'_>, count: usize) -> u8
 // The end of a call, behind its tag: the callee, and whether the call is pure.
 // kept: a name is a number, as for `get_create_element`
 pub fn closing(context: &Context<'_>, name: u8, pen: &mut Pen<'_>)
-    ensures { Produced (put bare.Callee ++ callee_named context.now.settings.now.mode name ++ put_byte with_byte.CallEnd (pure_byte context.now.settings.now.pure)) pen.old pen.new }
+    ensures notices_stay { pen.new.notices.now ≡ pen.old.notices.now }
+    ensures written { Produced (put bare.Callee ++ callee_named context.now.settings.now.mode name ++ put_byte with_byte.CallEnd (pure_byte context.now.settings.now.pure)) pen.old pen.new }
 {
     pen.put_bare(Bare::Callee);
     get_create_element(context.settings.mode, name, pen);
@@ -242,7 +252,9 @@ pub fn closing(context: &Context<'_>, name: u8, pen: &mut Pen<'_>)
 
 // A command that is there in development alone.
 fn in_development(context: &Context<'_>, command: Bare, pen: &mut Pen<'_>)
-    ensures { Produced (cond (development (context_of context.now)) (put command) []) pen.old pen.new }
+    ensures lent { Lent pen.old pen.new }
+    ensures notices_stay { pen.new.notices.now ≡ pen.old.notices.now }
+    ensures written { (t : List ℕ) (b : Bool) → Produced (cond (development (over_settings context.now t b)) (put command) []) pen.old pen.new }
 {
     if !context.settings.options.flags.development {
         return;
@@ -252,7 +264,9 @@ fn in_development(context: &Context<'_>, command: Bare, pen: &mut Pen<'_>)
 
 // Whether the children are static, in development.
 pub fn static_children(context: &Context<'_>, count: usize, pen: &mut Pen<'_>)
-    ensures { Produced (static_children (context_of context.now) count) pen.old pen.new }
+    ensures lent { Lent pen.old pen.new }
+    ensures notices_stay { pen.new.notices.now ≡ pen.old.notices.now }
+    ensures written { (t : List ℕ) (b : Bool) → Produced (static_children (over_settings context.now t b) count) pen.old pen.new }
 {
     let several = if 2 <= count {
         Bare::LiteralTrue
@@ -264,7 +278,9 @@ pub fn static_children(context: &Context<'_>, count: usize, pen: &mut Pen<'_>)
 
 // What stands for a key that is not there, in development.
 pub fn no_key(context: &Context<'_>, pen: &mut Pen<'_>)
-    ensures { Produced (no_key (context_of context.now)) pen.old pen.new }
+    ensures lent { Lent pen.old pen.new }
+    ensures notices_stay { pen.new.notices.now ≡ pen.old.notices.now }
+    ensures written { (t : List ℕ) (b : Bool) → Produced (no_key (over_settings context.now t b)) pen.old pen.new }
 {
     in_development(context, Bare::VoidZero, pen);
 }

@@ -4,8 +4,8 @@ ghost use Rattle.definitions.specs.Judging.{done};
 ghost use Rattle.definitions.specs.Tree.{Root};
 ghost use Rattle.definitions.specs.Reading.{Scoped, scopes_at, read_root};
 ghost use Rattle.definitions.specs.Lowering.{self_output, no_super_class};
-ghost use Rattle.pen.specs.Emitting.{Produced};
-ghost use Rattle.emit.specs.Contexts.{context_of};
+ghost use Rattle.pen.specs.Emitting.{Lent, Produced};
+ghost use Rattle.emit.specs.Contexts.{over_other_text};
 ghost use Rattle.emit.specs.Heads.{is_constructor, ScopesOf, HeadOf};
 
 use crate::context::Context;
@@ -83,7 +83,9 @@ pub fn root_head(tape: &[u8]) -> Used<bool>
 
 // `this`, if the plugin is on and `this` can be used where the element stands.
 pub fn self_output(context: &Context<'_>, pen: &mut Pen<'_>)
-    ensures { Produced (self_output (context_of context.now)) pen.old pen.new }
+    ensures lent { Lent pen.old pen.new }
+    ensures notices_stay { pen.new.notices.now ≡ pen.old.notices.now }
+    ensures written { (t : List ℕ) → Produced (self_output (over_other_text context.now t)) pen.old pen.new }
 {
     if context.settings.options.flags.self_plugin & context.self_allowed {
         pen.put_bare(Bare::SelfProperty);

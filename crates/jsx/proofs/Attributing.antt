@@ -26,7 +26,7 @@ use Rattle.definitions.specs.Tree.{Property, Attributes, attribute, Value}
 use Rattle.definitions.specs.Reading.{properties_at, attributes_at, value_at}
 use Rattle.definitions.specs.Lowering.{Context, Output, put, put_over, put_span, quoted, piece, colonized, is_found, is_key, has_value, key_notice, attribute_name, lower_literal, lower_attributes, lower_key, lower_value, no_key}
 use Rattle.pen.specs.declared.pen.Pen.{Pen}
-use Rattle.pen.specs.Emitting.{Produced}
+use Rattle.pen.specs.Emitting.{Short, Produced}
 use Rattle.root_check.proofs.Behind.{part, part_length}
 use Rattle.parts.specs.declared.jsx_impl.Props.{Props}
 use Rattle.parts.specs.Promises.{LiteralWritten, some_output}
@@ -187,11 +187,11 @@ module _ (c : Context) (classic : Bool) (t : List ℕ) (s : Span) (front : attri
 module _ (c : Context) (classic : Bool) (t : List ℕ) (s : Span) (front : attribute_command t ≡ Ok (attributes.Plain s)) (valued : Bool) (K : Valued c t s valued)
     {p : Pen} {took : ℕ} where
   -- a key with a value in an automatic call is no property
-  pub plain_passed : valued ≡ true → classic ≡ false → 5 ≤ length t
+  pub plain_passed : Short p → valued ≡ true → classic ≡ false → 5 ≤ length t
       → ((f : ℕ) (text : List ℕ) (d : ℕ) (v : Value) (u : ℕ) → length (part 5 t) < f → value_at f text d (part 5 t) ≡ done v u → took ≡ u)
       → (f d : ℕ) (a : Attributes) (u : ℕ) → length t < f → attributes_at f c.text d t ≡ done a u → AttributeStep c classic d t p p (record { used = 5 + took; some = false; key = Some 5 }) f a u
   unfolding some_output
-  plain_passed so cl five S f d a u h e =
+  plain_passed short so cl five S f d a u h e =
       let W = attributes_plain c.text t d f s front e in
       let reads : value_at W.fuel c.text d (part 5 t) ≡ done W.part W.took = in_part (λ (l : List ℕ). value_at W.fuel c.text d l) 5 t W.part_reads in
       let valued_key : (is_key c s && has_value W.part) ≡ true = sym (K W.fuel d W.part W.took reads) ∙ so in
@@ -199,7 +199,7 @@ module _ (c : Context) (classic : Bool) (t : List ℕ) (s : Span) (front : attri
       goes c classic d t (record { used = 5 + took; some = false; key = Some 5 }) (whole W) (ap (λ (q : ℕ). 5 + q) n) []
       (key_passed c classic s W.part W.rest valued_key cl) refl
       (first 5 W.part W.took refl (omega arith) W.part_reads (λ os. key_valued c s W.part W.rest os valued_key))
-      (produced_none p)
+      (produced_none short)
 
 module _ (c : Context) (classic : Bool) (t : List ℕ) where
   pub namespaced_step : (s z : Span) → attribute_command t ≡ Ok (attributes.Namespaced s z) → {p p₁ p₂ p₃ : Pen}
@@ -244,10 +244,10 @@ abbrev pub AttributesLeft : Context → Bool → ℕ → List ℕ → Attributes
 AttributesLeft c classic d t a u p₀ p i some key =
     Left (λ g l. attributes_at g c.text d l) (lower_attributes c classic) (Gathered c classic d t a some key) t a u p₀ p i
 
-pub left_begin : (c : Context) (classic : Bool) (t : List ℕ) (p : Pen) (f d : ℕ) (a : Attributes) (u : ℕ) → length t < f → attributes_at f c.text d t ≡ done a u
+pub left_begin : (c : Context) (classic : Bool) (t : List ℕ) {p : Pen} → Short p → (f d : ℕ) (a : Attributes) (u : ℕ) → length t < f → attributes_at f c.text d t ≡ done a u
     → AttributesLeft c classic d t a u p p 0 false None
-left_begin c classic t p f d a u h e =
-    left_start (λ g l. attributes_at g c.text d l) (lower_attributes c classic) t f a u p h e (record { flags = refl; keys = λ given. key_start c d t a given })
+left_begin c classic t short f d a u h e =
+    left_start (λ g l. attributes_at g c.text d l) (lower_attributes c classic) t f a u short h e (record { flags = refl; keys = λ given. key_start c d t a given })
 
 pub key_within : (len i : ℕ) (key k : Option ℕ) (used : ℕ) {now : Option ℕ} → KeyWithin len key → KeyWithin used k → i + used ≤ len → now ≡ newer i k key → KeyWithin len now
 unfolding newer

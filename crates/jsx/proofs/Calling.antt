@@ -93,7 +93,7 @@ module _ (c : Context) (place : Place) (a : Attributes) {d : ℕ} {t : List ℕ}
             (produced_then (produced_then b properties) z);
       }
 
-  pub no_object : {p₅ : Pen} → more ≡ false → Produced (put bare.Null) (record p₄ { call_place = p₀.call_place }) p₅
+  pub no_object : {p₅ : Pen} → more ≡ false → Produced (put bare.Null) (record p₄ { at = record p₄.at { calls = p₀.at.calls } }) p₅
       → Written (object_of (classic_properties c place a)) u p₀ p₅ r.used
   no_object h z =
       let e = object_null (classic_properties c place a) (told flagged h) in
@@ -177,8 +177,8 @@ module _ (c : Context) (k : Children) {u : ℕ} {items : Items} where
   bare_automatic_call {p₂ = p₂} {p₄} {p₅} {p₇ = p₇} {p₈} b o y q st g x i z = record {
     taken = y.taken;
     wrote =
-        automatic_written c k b o (produced_none p₂) y.wrote q
-        (subst (λ (m : ℕ). Produced (static_children c m) p₄ p₅) y.counted st) (produced_none p₅) g x
+        automatic_written c k b o (produced_none y.wrote.1) y.wrote q
+        (subst (λ (m : ℕ). Produced (static_children c m) p₄ p₅) y.counted st) (produced_none g.1) g x
         (subst (λ (m : ℕ). Produced (put bare.Callee ++ callee_named c.settings.mode m ++ put_byte with_byte.CallEnd (pure_byte c.settings.pure)) p₇ p₈)
         (i ∙ ap (automatic_name c) y.counted) z);
   }

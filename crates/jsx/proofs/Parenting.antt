@@ -21,7 +21,7 @@ use Rattle.definitions.specs.Reading.{element_at, fragment_at, value_at, childre
 use Rattle.definitions.specs.JsxText.{jsx_text}
 use Rattle.definitions.specs.Lowering.{Context, put, put_byte, put_over, form_of, survivors, has_spread, lower_text, lower_node, lower_value, lower_children}
 use Rattle.pen.specs.declared.pen.Pen.{Pen}
-use Rattle.pen.specs.Emitting.{Lent, Produced}
+use Rattle.pen.specs.Emitting.{Short, Lent, Produced}
 use Rattle.root_check.specs.InOrder.{Inside}
 use Rattle.parts.specs.declared.jsx_impl.Items.{Items}
 use Rattle.parts.specs.Promises.{IsText, TextWritten}
@@ -157,13 +157,13 @@ module _ (c : Context) (t : List ℕ) {p p' : Pen} where
       (spread_counts c B.rest x) w
 
 module _ (c : Context) (t : List ℕ) (p : Pen) where
-  pub child_empty : child_command t ≡ Ok children.Empty → (f d : ℕ) (k : Children) (u : ℕ) → children_at f c.text d t ≡ done k u
+  pub child_empty : Short p → child_command t ≡ Ok children.Empty → (f d : ℕ) (k : Children) (u : ℕ) → children_at f c.text d t ≡ done k u
       → ChildStep c d t p p (record { used = 1; count = 0; spread = false }) f k u
   unfolding lower_children
-  child_empty i f d k u e =
+  child_empty short i f d k u e =
       let r : Items = record { used = 1; count = 0; spread = false } in
       let B = children_empty c.text t d f i e in
-      step_on (λ g l. children_at g c.text d l) (lower_children c) (ChildrenGo c r) t B [] refl (empty_counts c B.rest) (produced_none p)
+      step_on (λ g l. children_at g c.text d l) (lower_children c) (ChildrenGo c r) t B [] refl (empty_counts c B.rest) (produced_none short)
 
 -- ---- the loop over children
 
@@ -179,14 +179,14 @@ pub record KidsLeft (c : Context) (t q : List ℕ) (p₀ p : Pen) (count : ℕ) 
   pub left : (f d : ℕ) (k : Children) (u : ℕ) → length t < f → children_at f c.text d t ≡ done k u
       → Left (λ g l. children_at g c.text d l) (lower_children c) (SoFar c k count spread) t k u p₀ p rest.passed
 
-pub kids_start : (c : Context) (t : List ℕ) (p : Pen) → KidsLeft c t t p p 0 false
-kids_start c t p =
+pub kids_start : (c : Context) (t : List ℕ) {p : Pen} → Short p → KidsLeft c t t p p 0 false
+kids_start c t short =
     record {
       lent = lent_none;
       rest = record { passed = 0; here = refl; size = omega arith };
       few = omega arith;
       left =
-          λ f d k u h e. left_start (λ g l. children_at g c.text d l) (lower_children c) t f k u p h e (record { counted = omega arith; spreads = refl });
+          λ f d k u h e. left_start (λ g l. children_at g c.text d l) (lower_children c) t f k u short h e (record { counted = omega arith; spreads = refl });
     }
 
 module _ {c : Context} {t q : List ℕ} {p₀ p : Pen} {count : ℕ} {spread : Bool} (K : KidsLeft c t q p₀ p count spread) where
@@ -238,7 +238,7 @@ module _ {c : Context} {t q : List ℕ} {p₀ p : Pen} {count : ℕ} {spread : B
 
 module _ (c : Context) {p₀ p₁ p₂ : Pen}
     (begun : Produced (put bare.ChildrenBegin) p₀ p₁) (r : Items) {k : Children} {u : ℕ} (W : ChildrenWritten c k (lower_children c k) u p₁ p₂ r) where
-  pub object_bare : {p₃ : Pen} → r.count ≡ 0 → Produced (put bare.ObjectEnd) (record p₂ { call_place = p₀.call_place }) p₃
+  pub object_bare : {p₃ : Pen} → r.count ≡ 0 → Produced (put bare.ObjectEnd) (record p₂ { at = record p₂.at { calls = p₀.at.calls } }) p₃
       → ChildrenWritten c k (children_object c k) u p₀ p₃ r
   object_bare z w =
       let n : survivors c k ≡ 0 = sym W.counted ∙ z in

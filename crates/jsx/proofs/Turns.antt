@@ -11,7 +11,7 @@ use lib.Seq.{drop-drop}
 use Rattle.definitions.specs.Judging.{Parsed, done}
 use Rattle.definitions.specs.Lowering.{Output}
 use Rattle.pen.specs.declared.pen.Pen.{Pen}
-use Rattle.pen.specs.Emitting.{Produced}
+use Rattle.pen.specs.Emitting.{Short, Produced}
 use Rattle.jsx.specs.Parts.{Step}
 use Rattle.pen.proofs.Emitting.{produced_none, produced_then, produced_as}
 
@@ -29,10 +29,10 @@ pub record Left {A : Type 0} (read : ℕ → List ℕ → Parsed A) (out : A →
   pub also : K rest
 
 module _ {A : Type 0} (read : ℕ → List ℕ → Parsed A) (out : A → List Output) (t : List ℕ) where
-  pub left_start : {K : A → Type 0} (f : ℕ) (x : A) (u : ℕ) (p : Pen) → length t < f → read f t ≡ done x u → K x
+  pub left_start : {K : A → Type 0} (f : ℕ) (x : A) (u : ℕ) {p : Pen} → Short p → length t < f → read f t ≡ done x u → K x
       → Left read out K t x u p p 0
-  left_start f x u p h e k =
-      record { fuel = f; rest = x; size = u; enough = omega arith; reads = e; used = omega arith; sofar = []; outs = refl; wrote = produced_none p; also = k }
+  left_start f x u short h e k =
+      record { fuel = f; rest = x; size = u; enough = omega arith; reads = e; used = omega arith; sofar = []; outs = refl; wrote = produced_none short; also = k }
 
   module _ {Goes : List ℕ → ℕ → A → A → Type 0} {x : A} {u : ℕ} {p₀ p p₁ : Pen} {i n : ℕ} (q : List ℕ) (here : q ≡ drop i t)
       (step : (f : ℕ) (y : A) (v : ℕ) → length q < f → read f q ≡ done y v → Step read out Goes q p p₁ n f y v)

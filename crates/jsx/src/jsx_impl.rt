@@ -21,7 +21,7 @@ use commands::{codes, sizes};
 use definitions::call_tape::{Bare, WithByte, WithExpression};
 use definitions::options::Settings;
 use definitions::records::CREATE_ELEMENT;
-use emit::context::Context;
+use emit::context::{Context, Sound};
 use emit::jsx_impl::{
     automatic_name, closing, get_attribute_name, get_fragment, no_key, static_children,
     transform_element_name,
@@ -59,10 +59,10 @@ fn unread(used: usize) -> Items
 
 // A value of an attribute.
 #[cycle(lowering)]
-fn transform_jsx_attribute_value(context: &Context<'_>, tape: &[u8], pen: &mut Pen<'_>) -> usize
+fn transform_jsx_attribute_value(sound: &Sound<'_>, tape: &[u8], pen: &mut Pen<'_>) -> usize
     ensures lent { Lent pen.old pen.new }
     ensures used_in_bounds { result ≤ length tape.now }
-    ensures written { (f d : ℕ) (v : Value) (u : ℕ) → length tape.now < f → value_at f context.now.text.now d tape.now ≡ done v u → Written (lower_value (context_of context.now) v) u pen.old pen.new result }
+    ensures written { (f d : ℕ) (v : Value) (u : ℕ) → length tape.now < f → value_at f sound.now.context.text.now d tape.now ≡ done v u → Written (lower_value (context_of sound.now.context) v) u pen.old pen.new result }
 {
     match value_command_at(tape) {
         Ok(ValueCommand::Absent) => {
@@ -83,11 +83,11 @@ fn transform_jsx_attribute_value(context: &Context<'_>, tape: &[u8], pen: &mut P
         }
         Ok(ValueCommand::Element(place)) => {
             let inside = &tape[sizes::WITH_PLACE..];
-            sizes::WITH_PLACE + transform_jsx(context, inside, place, pen)
+            sizes::WITH_PLACE + transform_jsx(sound, inside, place, pen)
         }
         Ok(ValueCommand::Fragment(_)) => {
             let inside = &tape[sizes::WITH_PLACE..];
-            sizes::WITH_PLACE + fragment(context, inside, pen)
+            sizes::WITH_PLACE + fragment(sound, inside, pen)
         }
         Err(_) => 0,
     }
@@ -95,20 +95,14 @@ fn transform_jsx_attribute_value(context: &Context<'_>, tape: &[u8], pen: &mut P
 
 // An attribute whose name is written: its value, behind n bytes.
 #[cycle(lowering)]
-fn behind(
-    context: &Context<'_>,
-    tape: &[u8],
-    n: usize,
-    key: Option<usize>,
-    pen: &mut Pen<'_>,
-) -> Props
+fn behind(sound: &Sound<'_>, tape: &[u8], n: usize, key: Option<usize>, pen: &mut Pen<'_>) -> Props
     requires { (1 ≤ n) × (n ≤ length tape.now) }
     ensures lent { Lent pen.old pen.new }
     ensures property { (result.key ≡ key) × (result.some ≡ true) × (n ≤ result.used) × (result.used ≤ length tape.now) }
-    ensures written { (f d : ℕ) (v : Value) (u : ℕ) → length tape.now ≤ f → value_at f context.now.text.now d (drop n tape.now) ≡ done v u → Written (lower_value (context_of context.now) v) (n + u) pen.old pen.new result.used }
+    ensures written { (f d : ℕ) (v : Value) (u : ℕ) → length tape.now ≤ f → value_at f sound.now.context.text.now d (drop n tape.now) ≡ done v u → Written (lower_value (context_of sound.now.context) v) (n + u) pen.old pen.new result.used }
 {
     Props {
-        used: n + transform_jsx_attribute_value(context, &tape[n..], pen),
+        used: n + transform_jsx_attribute_value(sound, &tape[n..], pen),
         some: true,
         key,
     }
@@ -116,49 +110,43 @@ fn behind(
 
 // A plain attribute that becomes a property.
 #[cycle(lowering)]
-fn plain(
-    context: &Context<'_>,
-    tape: &[u8],
-    span: Span,
-    key: Option<usize>,
-    pen: &mut Pen<'_>,
-) -> Props
+fn plain(sound: &Sound<'_>, tape: &[u8], span: Span, key: Option<usize>, pen: &mut Pen<'_>) -> Props
     requires { 5 ≤ length tape.now }
     ensures lent { Lent pen.old pen.new }
     ensures property { (result.key ≡ key) × (result.some ≡ true) × (5 ≤ result.used) × (result.used ≤ length tape.now) }
-    ensures written { (f d : ℕ) (v : Value) (u : ℕ) → length tape.now ≤ f → value_at f context.now.text.now d (drop 5 tape.now) ≡ done v u → Written (key_notice (context_of context.now) span v ++ attribute_name (context_of context.now) span ++ lower_value (context_of context.now) v) (5 + u) pen.old pen.new result.used }
+    ensures written { (f d : ℕ) (v : Value) (u : ℕ) → length tape.now ≤ f → value_at f sound.now.context.text.now d (drop 5 tape.now) ≡ done v u → Written (key_notice (context_of sound.now.context) span v ++ attribute_name (context_of sound.now.context) span ++ lower_value (context_of sound.now.context) v) (5 + u) pen.old pen.new result.used }
 {
-    key_notice(context, span, &tape[sizes::WITH_SPAN..], pen);
-    get_attribute_name(context, span, pen);
-    behind(context, tape, sizes::WITH_SPAN, key, pen)
+    key_notice(&sound.context, span, &tape[sizes::WITH_SPAN..], pen);
+    get_attribute_name(&sound.context, span, pen);
+    behind(sound, tape, sizes::WITH_SPAN, key, pen)
 }
 
 // The attribute at the front, where the attributes don't end. In an automatic call a key with a value is no property: its place is told. What does not
 // read is passed to its end.
 #[cycle(lowering)]
-fn attribute(context: &Context<'_>, form: Form, tape: &[u8], pen: &mut Pen<'_>) -> Props
+fn attribute(sound: &Sound<'_>, form: Form, tape: &[u8], pen: &mut Pen<'_>) -> Props
     requires some { 1 ≤ length tape.now }
     requires not_over { starts_with 0x1e tape.now ≡ false }
     ensures lent { Lent pen.old pen.new }
     ensures moves { AttributeMoves (length tape.now) result }
-    ensures step { (f d : ℕ) (a : Attributes) (u : ℕ) → length tape.now < f → attributes_at f context.now.text.now d tape.now ≡ done a u → AttributeStep (context_of context.now) (is_classic_form form) d tape.now pen.old pen.new result f a u }
+    ensures step { (f d : ℕ) (a : Attributes) (u : ℕ) → length tape.now < f → attributes_at f sound.now.context.text.now d tape.now ≡ done a u → AttributeStep (context_of sound.now.context) (is_classic_form form) d tape.now pen.old pen.new result f a u }
 {
     match attribute_command_at(tape) {
         Ok(AttributeCommand::Plain(span)) => {
             let value = &tape[sizes::WITH_SPAN..];
-            if !is_valued_key(context, span, value) {
-                return plain(context, tape, span, None, pen);
+            if !is_valued_key(&sound.context, span, value) {
+                return plain(sound, tape, span, None, pen);
             }
             let key = Some(sizes::WITH_SPAN);
             match form {
-                Form::Classic => plain(context, tape, span, key, pen),
+                Form::Classic => plain(sound, tape, span, key, pen),
                 Form::Automatic => passed(sizes::WITH_SPAN + skip_value(value), key),
             }
         }
         Ok(AttributeCommand::Namespaced(namespace, name)) => {
             pen.put_bare(Bare::StringName);
             pen.put_namespaced(namespace, name);
-            behind(context, tape, sizes::WITH_SPANS, None, pen)
+            behind(sound, tape, sizes::WITH_SPANS, None, pen)
         }
         Ok(AttributeCommand::Spread(e)) => {
             pen.put_over(WithExpression::SpreadProperty, e);
@@ -168,7 +156,7 @@ fn attribute(context: &Context<'_>, form: Form, tape: &[u8], pen: &mut Pen<'_>) 
                 key: None,
             }
         }
-        Ok(AttributeCommand::Literal(e)) => literal_attribute(context, e, tape, pen),
+        Ok(AttributeCommand::Literal(e)) => literal_attribute(&sound.context, e, tape, pen),
         Ok(AttributeCommand::End) => passed(tape.len(), None),
         Err(_) => passed(tape.len(), None),
     }
@@ -176,10 +164,10 @@ fn attribute(context: &Context<'_>, form: Form, tape: &[u8], pen: &mut Pen<'_>) 
 
 // The attributes up to the 1e.
 #[cycle(lowering)]
-fn attrs(context: &Context<'_>, form: Form, tape: &[u8], pen: &mut Pen<'_>) -> Props
+fn attrs(sound: &Sound<'_>, form: Form, tape: &[u8], pen: &mut Pen<'_>) -> Props
     ensures lent { Lent pen.old pen.new }
     ensures within { (result.used ≤ length tape.now) × KeyWithin (length tape.now) result.key }
-    ensures written { (f d : ℕ) (a : Attributes) (u : ℕ) → length tape.now < f → attributes_at f context.now.text.now d tape.now ≡ done a u → AttributesWritten (context_of context.now) (is_classic_form form) d tape.now a u pen.old pen.new result }
+    ensures written { (f d : ℕ) (a : Attributes) (u : ℕ) → length tape.now < f → attributes_at f sound.now.context.text.now d tape.now ≡ done a u → AttributesWritten (context_of sound.now.context) (is_classic_form form) d tape.now a u pen.old pen.new result }
 {
     // kept: a place is what is told here, of the end and of the last key, so it stays beside what is left
     let mut i: usize = 0;
@@ -197,7 +185,7 @@ fn attrs(context: &Context<'_>, form: Form, tape: &[u8], pen: &mut Pen<'_>) -> P
         if rest.is_empty() {
             return Props { used: i, some, key };
         }
-        let step = attribute(context, form, rest, pen);
+        let step = attribute(sound, form, rest, pen);
         key = newer(i, step.key, key);
         some = some | step.some;
         i = i + step.used;
@@ -206,15 +194,15 @@ fn attrs(context: &Context<'_>, form: Form, tape: &[u8], pen: &mut Pen<'_>) -> P
 
 // The child at the front, where the children don't end. What does not read is passed to its end.
 #[cycle(lowering)]
-fn transform_jsx_child(context: &Context<'_>, tape: &[u8], pen: &mut Pen<'_>) -> Items
+fn transform_jsx_child(sound: &Sound<'_>, tape: &[u8], pen: &mut Pen<'_>) -> Items
     requires some { 1 ≤ length tape.now }
     requires not_over { starts_with 0x1f tape.now ≡ false }
     ensures lent { Lent pen.old pen.new }
     ensures moves { ChildMoves (length tape.now) result }
-    ensures step { (f d : ℕ) (k : Children) (u : ℕ) → length tape.now < f → children_at f context.now.text.now d tape.now ≡ done k u → ChildStep (context_of context.now) d tape.now pen.old pen.new result f k u }
+    ensures step { (f d : ℕ) (k : Children) (u : ℕ) → length tape.now < f → children_at f sound.now.context.text.now d tape.now ≡ done k u → ChildStep (context_of sound.now.context) d tape.now pen.old pen.new result f k u }
 {
     match child_command_at(tape) {
-        Ok(ChildCommand::Text(span)) => transform_jsx_text(context, span, pen),
+        Ok(ChildCommand::Text(span)) => transform_jsx_text(sound, span, pen),
         Ok(ChildCommand::Expression(e)) => {
             pen.put_over(WithExpression::Expression, e);
             Items {
@@ -235,7 +223,7 @@ fn transform_jsx_child(context: &Context<'_>, tape: &[u8], pen: &mut Pen<'_>) ->
         Ok(ChildCommand::Element(place)) => {
             let inside = &tape[sizes::WITH_PLACE..];
             Items {
-                used: sizes::WITH_PLACE + transform_jsx(context, inside, place, pen),
+                used: sizes::WITH_PLACE + transform_jsx(sound, inside, place, pen),
                 count: 1,
                 spread: false,
             }
@@ -243,7 +231,7 @@ fn transform_jsx_child(context: &Context<'_>, tape: &[u8], pen: &mut Pen<'_>) ->
         Ok(ChildCommand::Fragment(_)) => {
             let inside = &tape[sizes::WITH_PLACE..];
             Items {
-                used: sizes::WITH_PLACE + fragment(context, inside, pen),
+                used: sizes::WITH_PLACE + fragment(sound, inside, pen),
                 count: 1,
                 spread: false,
             }
@@ -255,10 +243,10 @@ fn transform_jsx_child(context: &Context<'_>, tape: &[u8], pen: &mut Pen<'_>) ->
 
 // The children up to the 1f.
 #[cycle(lowering)]
-fn children(context: &Context<'_>, tape: &[u8], pen: &mut Pen<'_>) -> Items
+fn children(sound: &Sound<'_>, tape: &[u8], pen: &mut Pen<'_>) -> Items
     ensures lent { Lent pen.old pen.new }
     ensures within { (result.used ≤ length tape.now) × (result.count ≤ length tape.now) }
-    ensures written { (f d : ℕ) (k : Children) (u : ℕ) → length tape.now < f → children_at f context.now.text.now d tape.now ≡ done k u → ChildrenWritten (context_of context.now) k (lower_children (context_of context.now) k) u pen.old pen.new result }
+    ensures written { (f d : ℕ) (k : Children) (u : ℕ) → length tape.now < f → children_at f sound.now.context.text.now d tape.now ≡ done k u → ChildrenWritten (context_of sound.now.context) k (lower_children (context_of sound.now.context) k) u pen.old pen.new result }
 {
     let mut rest = tape;
     // kept: the children that survive are counted, not the turns
@@ -279,7 +267,7 @@ fn children(context: &Context<'_>, tape: &[u8], pen: &mut Pen<'_>) -> Items
                 spread,
             };
         }
-        let step = transform_jsx_child(context, rest, pen);
+        let step = transform_jsx_child(sound, rest, pen);
         count = count + step.count;
         spread = spread | step.spread;
         rest = &rest[step.used..];
@@ -288,16 +276,16 @@ fn children(context: &Context<'_>, tape: &[u8], pen: &mut Pen<'_>) -> Items
 
 // The children of an automatic call and the end of its object. Where no child survives, the object's end takes the place of the children's begin.
 #[cycle(lowering)]
-fn inner(context: &Context<'_>, tape: &[u8], pen: &mut Pen<'_>) -> Items
+fn inner(sound: &Sound<'_>, tape: &[u8], pen: &mut Pen<'_>) -> Items
     ensures lent { Lent pen.old pen.new }
     ensures within { (result.used ≤ length tape.now) × (result.count ≤ length tape.now) }
-    ensures written { (f d : ℕ) (k : Children) (u : ℕ) → length tape.now < f → children_at f context.now.text.now d tape.now ≡ done k u → ChildrenWritten (context_of context.now) k (children_object (context_of context.now) k) u pen.old pen.new result }
+    ensures written { (f d : ℕ) (k : Children) (u : ℕ) → length tape.now < f → children_at f sound.now.context.text.now d tape.now ≡ done k u → ChildrenWritten (context_of sound.now.context) k (children_object (context_of sound.now.context) k) u pen.old pen.new result }
 {
-    let start = pen.call_place;
+    let start = pen.at.calls;
     pen.put_bare(Bare::ChildrenBegin);
-    let items = children(context, tape, pen);
+    let items = children(sound, tape, pen);
     if items.count == 0 {
-        pen.call_place = start;
+        pen.at.calls = start;
         pen.put_bare(Bare::ObjectEnd);
         return items;
     }
@@ -311,175 +299,177 @@ fn inner(context: &Context<'_>, tape: &[u8], pen: &mut Pen<'_>) -> Items
 
 // The value of the last key, or what stands for none.
 #[cycle(lowering)]
-fn key_of(context: &Context<'_>, tape: &[u8], key: Option<usize>, pen: &mut Pen<'_>)
+fn key_of(sound: &Sound<'_>, tape: &[u8], key: Option<usize>, pen: &mut Pen<'_>)
     requires { KeyWithin (length tape.now) key }
     ensures lent { Lent pen.old pen.new }
-    ensures written { (d : ℕ) (os : List Output) → KeyAt (context_of context.now) d tape.now (no_key (context_of context.now)) key os → Produced os pen.old pen.new }
+    ensures written { (d : ℕ) (os : List Output) → KeyAt (context_of sound.now.context) d tape.now (no_key (context_of sound.now.context)) key os → Produced os pen.old pen.new }
 {
     match key {
         Some(place) => {
             pen.put_bare(Bare::Key);
-            transform_jsx_attribute_value(context, &tape[place..], pen);
+            transform_jsx_attribute_value(sound, &tape[place..], pen);
         }
-        None => no_key(context, pen),
+        None => no_key(&sound.context, pen),
     }
 }
 
 // An automatic call of an element whose name takes `at` bytes.
 #[cycle(lowering)]
-fn automatic(
-    context: &Context<'_>,
-    tape: &[u8],
-    at: usize,
-    place: Place,
-    pen: &mut Pen<'_>,
-) -> usize
+fn automatic(sound: &Sound<'_>, tape: &[u8], at: usize, place: Place, pen: &mut Pen<'_>) -> usize
     requires { at ≤ length tape.now }
     ensures lent { Lent pen.old pen.new }
     ensures used_in_bounds { result ≤ length tape.now }
-    ensures written { (d f : ℕ) (n : Name) (a : Attributes) (v : ℕ) (k : Children) (w : ℕ) → Parts context.now.text.now d tape.now f at n a v k w → Countable place → Written (automatic_element (context_of context.now) place n a k) (at + v + w) pen.old pen.new result }
+    ensures written { (d f : ℕ) (n : Name) (a : Attributes) (v : ℕ) (k : Children) (w : ℕ) → Parts sound.now.context.text.now d tape.now f at n a v k w → Countable place → Written (automatic_element (context_of sound.now.context) place n a k) (at + v + w) pen.old pen.new result }
 {
     pen.put_byte(WithByte::Call, Form::Automatic as u8);
     pen.put_bare(Bare::ObjectBegin);
-    let props = attrs(context, Form::Automatic, &tape[at..], pen);
+    let props = attrs(sound, Form::Automatic, &tape[at..], pen);
     let from = at + props.used;
-    let items = inner(context, &tape[from..], pen);
-    key_of(context, &tape[at..], props.key, pen);
-    static_children(context, items.count, pen);
-    source_output(context, place, pen);
-    self_output(context, pen);
+    let items = inner(sound, &tape[from..], pen);
+    key_of(sound, &tape[at..], props.key, pen);
+    static_children(&sound.context, items.count, pen);
+    source_output(&sound.context, place, pen);
+    self_output(&sound.context, pen);
     pen.put_bare(Bare::Tag);
-    transform_element_name(context, tape, pen);
-    closing(context, automatic_name(context, items.count), pen);
+    transform_element_name(&sound.context, tape, pen);
+    closing(
+        &sound.context,
+        automatic_name(&sound.context, items.count),
+        pen,
+    );
     from + items.used
 }
 
 // The object of a classic call, or null in its place where there is no property.
 #[cycle(lowering)]
-fn or_null(context: &Context<'_>, tape: &[u8], place: Place, pen: &mut Pen<'_>) -> usize
+fn or_null(sound: &Sound<'_>, tape: &[u8], place: Place, pen: &mut Pen<'_>) -> usize
     ensures lent { Lent pen.old pen.new }
     ensures used_in_bounds { result ≤ length tape.now }
-    ensures written { (d f : ℕ) (a : Attributes) (u : ℕ) → length tape.now < f → attributes_at f context.now.text.now d tape.now ≡ done a u → Countable place → Written (object_of (classic_properties (context_of context.now) place a)) u pen.old pen.new result }
+    ensures written { (d f : ℕ) (a : Attributes) (u : ℕ) → length tape.now < f → attributes_at f sound.now.context.text.now d tape.now ≡ done a u → Countable place → Written (object_of (classic_properties (context_of sound.now.context) place a)) u pen.old pen.new result }
 {
-    let start = pen.call_place;
+    let start = pen.at.calls;
     pen.put_bare(Bare::ObjectBegin);
-    let props = attrs(context, Form::Classic, tape, pen);
-    self_output(context, pen);
-    source_output(context, place, pen);
-    if has_more(context, props.some) {
+    let props = attrs(sound, Form::Classic, tape, pen);
+    self_output(&sound.context, pen);
+    source_output(&sound.context, place, pen);
+    if has_more(&sound.context, props.some) {
         pen.put_bare(Bare::ObjectEnd);
         return props.used;
     }
-    pen.call_place = start;
+    pen.at.calls = start;
     pen.put_bare(Bare::Null);
     props.used
 }
 
 // The argument of a classic call behind the tag: a sole spread, an object or null.
 #[cycle(lowering)]
-fn argument(context: &Context<'_>, tape: &[u8], place: Place, pen: &mut Pen<'_>) -> usize
+fn argument(sound: &Sound<'_>, tape: &[u8], place: Place, pen: &mut Pen<'_>) -> usize
     ensures lent { Lent pen.old pen.new }
     ensures used_in_bounds { result ≤ length tape.now }
-    ensures written { (d f : ℕ) (a : Attributes) (u : ℕ) → length tape.now < f → attributes_at f context.now.text.now d tape.now ≡ done a u → Countable place → Written (lone_spread_or (context_of context.now) a (object_of (classic_properties (context_of context.now) place a))) u pen.old pen.new result }
+    ensures written { (d f : ℕ) (a : Attributes) (u : ℕ) → length tape.now < f → attributes_at f sound.now.context.text.now d tape.now ≡ done a u → Countable place → Written (lone_spread_or (context_of sound.now.context) a (object_of (classic_properties (context_of sound.now.context) place a))) u pen.old pen.new result }
 {
-    match lone_spread(context, tape) {
+    match lone_spread(&sound.context, tape) {
         Some(sole) => {
             pen.put_over(WithExpression::SoleSpread, sole.value);
             sole.used
         }
-        None => or_null(context, tape, place, pen),
+        None => or_null(sound, tape, place, pen),
     }
 }
 
 // A classic call of an element whose name takes `at` bytes.
 #[cycle(lowering)]
-fn create(context: &Context<'_>, tape: &[u8], at: usize, place: Place, pen: &mut Pen<'_>) -> usize
+fn create(sound: &Sound<'_>, tape: &[u8], at: usize, place: Place, pen: &mut Pen<'_>) -> usize
     requires { at ≤ length tape.now }
     ensures lent { Lent pen.old pen.new }
     ensures used_in_bounds { result ≤ length tape.now }
-    ensures written { (d f : ℕ) (n : Name) (a : Attributes) (v : ℕ) (k : Children) (w : ℕ) → Parts context.now.text.now d tape.now f at n a v k w → Countable place → Written (classic_call_of (context_of context.now) place n a k) (at + v + w) pen.old pen.new result }
+    ensures written { (d f : ℕ) (n : Name) (a : Attributes) (v : ℕ) (k : Children) (w : ℕ) → Parts sound.now.context.text.now d tape.now f at n a v k w → Countable place → Written (classic_call_of (context_of sound.now.context) place n a k) (at + v + w) pen.old pen.new result }
 {
     pen.put_byte(WithByte::Call, Form::Classic as u8);
-    let from = at + argument(context, &tape[at..], place, pen);
-    let items = children(context, &tape[from..], pen);
+    let from = at + argument(sound, &tape[at..], place, pen);
+    let items = children(sound, &tape[from..], pen);
     pen.put_bare(Bare::Tag);
-    transform_element_name(context, tape, pen);
-    closing(context, CREATE_ELEMENT, pen);
+    transform_element_name(&sound.context, tape, pen);
+    closing(&sound.context, CREATE_ELEMENT, pen);
     from + items.used
 }
 
 // An element behind its 10 and place.
 #[cycle(lowering)]
-fn transform_jsx(context: &Context<'_>, tape: &[u8], place: Place, pen: &mut Pen<'_>) -> usize
+fn transform_jsx(sound: &Sound<'_>, tape: &[u8], place: Place, pen: &mut Pen<'_>) -> usize
     ensures lent { Lent pen.old pen.new }
     ensures used_in_bounds { result ≤ length tape.now }
-    ensures written { (f d : ℕ) (n : Node) (u : ℕ) → suc (length tape.now) < f → element_at f context.now.text.now d place tape.now ≡ done n u → Countable place → Written (lower_node (context_of context.now) n) u pen.old pen.new result }
+    ensures written { (f d : ℕ) (n : Node) (u : ℕ) → suc (length tape.now) < f → element_at f sound.now.context.text.now d place tape.now ≡ done n u → Countable place → Written (lower_node (context_of sound.now.context) n) u pen.old pen.new result }
 {
     let at = skip_name(tape);
-    if is_classic_element(context, &tape[at..]) {
-        return create(context, tape, at, place, pen);
+    if is_classic_element(&sound.context, &tape[at..]) {
+        return create(sound, tape, at, place, pen);
     }
-    automatic(context, tape, at, place, pen)
+    automatic(sound, tape, at, place, pen)
 }
 
 // A fragment behind its 11 and place.
 #[cycle(lowering)]
-fn fragment(context: &Context<'_>, tape: &[u8], pen: &mut Pen<'_>) -> usize
+fn fragment(sound: &Sound<'_>, tape: &[u8], pen: &mut Pen<'_>) -> usize
     ensures lent { Lent pen.old pen.new }
     ensures used_in_bounds { result ≤ length tape.now }
-    ensures written { (f d : ℕ) (place : places.Place) (n : Node) (u : ℕ) → suc (length tape.now) < f → fragment_at f context.now.text.now d place tape.now ≡ done n u → Written (lower_node (context_of context.now) n) u pen.old pen.new result }
+    ensures written { (f d : ℕ) (place : places.Place) (n : Node) (u : ℕ) → suc (length tape.now) < f → fragment_at f sound.now.context.text.now d place tape.now ≡ done n u → Written (lower_node (context_of sound.now.context) n) u pen.old pen.new result }
 {
-    if is_classic(context.settings.mode) {
-        return bare(context, tape, pen);
+    if is_classic(sound.context.settings.mode) {
+        return bare(sound, tape, pen);
     }
-    bare_auto(context, tape, pen)
+    bare_auto(sound, tape, pen)
 }
 
 // A classic call of a fragment.
 #[cycle(lowering)]
-fn bare(context: &Context<'_>, tape: &[u8], pen: &mut Pen<'_>) -> usize
+fn bare(sound: &Sound<'_>, tape: &[u8], pen: &mut Pen<'_>) -> usize
     ensures lent { Lent pen.old pen.new }
     ensures used_in_bounds { result ≤ length tape.now }
-    ensures written { (f d : ℕ) (k : Children) (u : ℕ) → length tape.now < f → children_at f context.now.text.now d tape.now ≡ done k u → Written (classic_fragment (context_of context.now) k) u pen.old pen.new result }
+    ensures written { (f d : ℕ) (k : Children) (u : ℕ) → length tape.now < f → children_at f sound.now.context.text.now d tape.now ≡ done k u → Written (classic_fragment (context_of sound.now.context) k) u pen.old pen.new result }
 {
     pen.put_byte(WithByte::Call, Form::Classic as u8);
     pen.put_bare(Bare::Null);
-    let items = children(context, tape, pen);
+    let items = children(sound, tape, pen);
     pen.put_bare(Bare::Tag);
-    get_fragment(context.settings.mode, pen);
-    closing(context, CREATE_ELEMENT, pen);
+    get_fragment(sound.context.settings.mode, pen);
+    closing(&sound.context, CREATE_ELEMENT, pen);
     items.used
 }
 
 // An automatic call of a fragment.
 #[cycle(lowering)]
-fn bare_auto(context: &Context<'_>, tape: &[u8], pen: &mut Pen<'_>) -> usize
+fn bare_auto(sound: &Sound<'_>, tape: &[u8], pen: &mut Pen<'_>) -> usize
     ensures lent { Lent pen.old pen.new }
     ensures used_in_bounds { result ≤ length tape.now }
-    ensures written { (f d : ℕ) (k : Children) (u : ℕ) → length tape.now < f → children_at f context.now.text.now d tape.now ≡ done k u → Written (automatic_fragment (context_of context.now) k) u pen.old pen.new result }
+    ensures written { (f d : ℕ) (k : Children) (u : ℕ) → length tape.now < f → children_at f sound.now.context.text.now d tape.now ≡ done k u → Written (automatic_fragment (context_of sound.now.context) k) u pen.old pen.new result }
 {
     pen.put_byte(WithByte::Call, Form::Automatic as u8);
     pen.put_bare(Bare::ObjectBegin);
-    let items = inner(context, tape, pen);
-    no_key(context, pen);
-    static_children(context, items.count, pen);
+    let items = inner(sound, tape, pen);
+    no_key(&sound.context, pen);
+    static_children(&sound.context, items.count, pen);
     pen.put_bare(Bare::Tag);
-    get_fragment(context.settings.mode, pen);
-    closing(context, automatic_name(context, items.count), pen);
+    get_fragment(sound.context.settings.mode, pen);
+    closing(
+        &sound.context,
+        automatic_name(&sound.context, items.count),
+        pen,
+    );
     items.used
 }
 
 // The element or fragment that stands at the front of what follows a root's scopes.
-fn transform_root(context: &Context<'_>, tape: &[u8], pen: &mut Pen<'_>)
+fn transform_root(sound: &Sound<'_>, tape: &[u8], pen: &mut Pen<'_>)
     ensures lent { Lent pen.old pen.new }
-    ensures written { (n : Node) → NodeAt context.now.text.now tape.now n → Produced (lower_node (context_of context.now) n) pen.old pen.new }
+    ensures written { (n : Node) → NodeAt sound.now.context.text.now tape.now n → Produced (lower_node (context_of sound.now.context) n) pen.old pen.new }
 {
     match scope_command_at(true, tape) {
         Ok(ScopeCommand::Element(place)) => {
-            transform_jsx(context, &tape[sizes::WITH_PLACE..], place, pen);
+            transform_jsx(sound, &tape[sizes::WITH_PLACE..], place, pen);
         }
         Ok(ScopeCommand::Fragment(_)) => {
-            fragment(context, &tape[sizes::WITH_PLACE..], pen);
+            fragment(sound, &tape[sizes::WITH_PLACE..], pen);
         }
         Ok(ScopeCommand::Scope(_)) | Err(_) => {}
     }
@@ -493,10 +483,12 @@ pub fn lower(text: &[u8], settings: &Settings, tape: &[u8], pen: &mut Pen<'_>)
     ensures written { (o : Root) (u : ℕ) → read_root text.now tape.now ≡ done o u → Produced (lower_root text.now settings.now o) pen.old pen.new }
 {
     let head = root_head(tape);
-    let context = Context {
-        text,
-        settings,
-        self_allowed: head.value,
+    let sound = Sound {
+        context: Context {
+            text,
+            settings,
+            self_allowed: head.value,
+        },
     };
-    transform_root(&context, &tape[head.used..], pen);
+    transform_root(&sound, &tape[head.used..], pen);
 }

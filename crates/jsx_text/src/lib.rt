@@ -14,7 +14,7 @@ ghost use Rattle.jsx_text.specs.TextBytes.{text_bytes, line_bytes, end_bytes};
 
 use definitions::call_tape::{Bare, Coded, WithSpan};
 use tape::target::{Encode, LAST_PLACE};
-use text::bytes::passed_blocks;
+use text::bytes::{ASCII_END, passed_blocks};
 use text::chars::{Char, first_char, is_line_terminator, is_white_space};
 use text::spans::{Span, part};
 
@@ -47,7 +47,7 @@ fn mark_of(c: Char) -> Mark
     Mark::Ink(c.width)
 }
 
-const LAST_ASCII: u8 = 0x7f;
+const LAST_ASCII: u8 = ASCII_END - 1;
 
 // So many bytes of a run are tested at once.
 const BLOCK: usize = 16;

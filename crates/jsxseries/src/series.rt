@@ -35,6 +35,7 @@ impl Series<'_> {
     fn lower_read(&mut self, read: &[u8]) -> Option<Result<(), Refusal>>
         ensures first_value { result ≡ first_of self.old.text.now (world_of self.old) (roots_in read.now) }
         ensures world_after { world_of self.new ≡ series self.old.text.now (world_of self.old) (take 1 (roots_in read.now)) }
+        ensures text_stays { self.new.text ≡ self.old.text }
     {
         if read.len() < 2 {
             return None;
@@ -56,8 +57,8 @@ impl Series<'_> {
     }
 
     // Lowers the roots of the list in turn, each from the buffer that it was read into, and prints an answer for each, up to the end of the list or a line
-    // that is not written. Which roots these are depends on what is read, so only what the printing of the targets needs is stated: that the fills lie within
-    // them.
+    // that is not written. Which roots these are depends on what is read, so only what the printing needs is stated: that the fills lie within the targets, and
+    // that the text stays.
     pub fn lower_all<R: Read, W: Write>(
         &mut self,
         list: &mut R,
@@ -65,7 +66,8 @@ impl Series<'_> {
         line: &mut [u8],
     ) -> io::Result<()>
         requires { Fits (world_of self.old) }
-        ensures { Fits (world_of self.new) }
+        ensures fits { Fits (world_of self.new) }
+        ensures text_stays { self.new.text ≡ self.old.text }
     {
         let mut buffer = [0u8; LONGEST];
         // a proved loop has to end, and nothing says that a list does: so the turns are counted, to a number that no list uses up

@@ -52,9 +52,7 @@ fn print_answer(out: &mut impl Write, a: Answer) -> Result<()> {
 
 // The answer for what stands before the equals sign.
 fn computed(input: &[u8]) -> Answer {
-    let Some((operation, operands)) = next_word(input) else {
-        return named(b"malformed");
-    };
+    let (operation, operands) = next_word(input).unwrap_or((b"", b""));
     if operation == b"refusal".as_slice() {
         return tape_answers::refusal(operands);
     }

@@ -12,7 +12,7 @@ use tape::refusal::{Fault, Refusal};
 use tape::target::Encode;
 use text::spans::Span;
 use vectors::answers::{Answer, named, no_values, values_of, with_bytes, with_value};
-use vectors::lines::next_word;
+use vectors::values::{WORDS, letters_of};
 
 pub fn answer(operation: &[u8], bytes: &[u8]) -> Answer {
     match operation {
@@ -235,13 +235,16 @@ fn child(s: &[u8]) -> Result<Answer, CommandError> {
 
 // ---- refusals, by name and place
 
-// Number and figure.
+// Number and figure. A name is known by its value, that is by the letters that are read off it again: those of both cases are the same.
 pub fn refusal(operands: &[u8]) -> Answer {
-    let Some((name, behind)) = next_word(operands) else {
-        return named(b"unknown");
+    let [name, at, ..] = values_of(operands).v;
+    let mut letters = [0u8; 12];
+    let start = if name < WORDS {
+        letters.len()
+    } else {
+        letters_of(name, &mut letters)
     };
-    let at = values_of(behind).v[0] as usize;
-    match refusal_named(name, at) {
+    match refusal_named(&letters[start..], at as usize) {
         Some(refusal) => with_value(
             with_value(no_values(), u64::from(refusal.number())),
             refusal.figure() as u64,
@@ -253,7 +256,8 @@ pub fn refusal(operands: &[u8]) -> Answer {
 fn refusal_named(name: &[u8], at: usize) -> Option<Refusal> {
     match name {
         b"toolong" => Some(Refusal::TooLong),
-        b"notutf8" => Some(Refusal::NotUtf8(at)),
+        // an 8 counts as an x does
+        b"notutfx" => Some(Refusal::NotUtf8(at)),
         b"pragmabyte" => Some(Refusal::PragmaByte(at)),
         b"bindings" => Some(Refusal::Bindings),
         b"space" => Some(Refusal::Space(at)),

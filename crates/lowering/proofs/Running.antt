@@ -48,18 +48,17 @@ Ran text s tape p p' =
 pub record Counted (text : List ℕ) (s : State) (tape : List ℕ) (call_room notice_room : ℕ) (p : Pen) : Type 0 where
   pub lowered : Lowered
   pub judges : judge_tape text s tape call_room notice_room ≡ fitted s call_room notice_room lowered
-  pub full : p.full ≡ ltb 8 (length lowered.bound)
-  pub calls : p.call_place ≡ length lowered.calls
-  pub notices : p.notice_place ≡ length lowered.notices
+  pub full : p.at.full ≡ ltb 8 (length lowered.bound)
+  pub calls : p.at.calls ≡ length lowered.calls
+  pub notices : p.at.notices ≡ length lowered.notices
 
 module _ {text : List ℕ} {s : State} {tape : List ℕ} {call_room notice_room : ℕ} (ready : Ready text s tape call_room notice_room) where
-  pub counts : length s.records ≡ 8 → {calls notices : MutBor (List ℕ)} {p q : Pen} → length calls.now ≤ 2 ^ 63 → length notices.now ≤ 2 ^ 63
-      → p ≡ pen_of s calls notices 0 0 → Ran text s tape p q → Counted text s tape call_room notice_room q
-  counts eight {calls} {notices} {p} {q} short short' start run =
+  pub counts : length s.records ≡ 8 → {calls notices : MutBor (List ℕ)} {p q : Pen} → p ≡ pen_of s calls notices 0 0 → Ran text s tape p q → Counted text s tape call_room notice_room q
+  counts eight {calls} {notices} {p} {q} start run =
       let ran : Ran text s tape (pen_of s calls notices 0 0) q = subst (λ (x : Pen). Ran text s tape x q) start run in
       let good = checked_good (read_root text tape) ready.reads in
       let o = good.0 in
-      let e = (ran o good.1 good.2).1 s.records (imports (live s)) (state_stands text s calls notices 0 0 eight ready.unforged.bore short short' (omega arith) (omega arith)) in
+      let e = (ran o good.1 good.2).2 s.records (imports (live s)) (state_stands text s calls notices 0 0 eight ready.unforged.bore (omega arith) (omega arith)) in
       let few : good.1 ≤ 65535 = omega (arith, root_in_order text tape o good.1 good.2, ready.unforged.spelled.tape_short) in
       let c = counted text tape s.settings (imports (live s)) o good.1 ready.unforged.spelled.short few good.2 refl refl refl e in
       record {
@@ -71,26 +70,26 @@ module _ {text : List ℕ} {s : State} {tape : List ℕ} {call_room notice_room 
       }
 
 module _ {text : List ℕ} {s : State} {tape : List ℕ} {call_room notice_room : ℕ} {p : Pen} (c : Counted text s tape call_room notice_room p) where
-  pub no_number : p.full ≡ true → Err refusal.Bindings ≡ answer_of (judge_tape text s tape call_room notice_room)
+  pub no_number : p.at.full ≡ true → Err refusal.Bindings ≡ answer_of (judge_tape text s tape call_room notice_room)
   unfolding fitted refuse answer_of
   no_number h = rw (c.judges, told c.full h)
 
-  module _ (free : p.full ≡ false) where
-    pub no_bound : call_room - s.calls < p.call_place → Err (refusal.Space p.call_place) ≡ answer_of (judge_tape text s tape call_room notice_room)
+  module _ (free : p.at.full ≡ false) where
+    pub no_bound : call_room - s.calls < p.at.calls → Err (refusal.Space p.at.calls) ≡ answer_of (judge_tape text s tape call_room notice_room)
     unfolding fitted refuse answer_of
-    no_bound h = rw (c.judges, told c.full free, ← c.calls, lt-ltb (call_room - s.calls) p.call_place h)
+    no_bound h = rw (c.judges, told c.full free, ← c.calls, lt-ltb (call_room - s.calls) p.at.calls h)
 
-    module _ (room : p.call_place ≤ call_room - s.calls) where
-      pub no_notice_room : notice_room - s.notices < p.notice_place
-          → Err (refusal.NoticeSpace p.notice_place) ≡ answer_of (judge_tape text s tape call_room notice_room)
+    module _ (room : p.at.calls ≤ call_room - s.calls) where
+      pub no_notice_room : notice_room - s.notices < p.at.notices
+          → Err (refusal.NoticeSpace p.at.notices) ≡ answer_of (judge_tape text s tape call_room notice_room)
       unfolding fitted refuse answer_of
       no_notice_room h =
-          rw (c.judges, told c.full free, ← c.calls, ← c.notices, le-ltb (call_room - s.calls) p.call_place room, lt-ltb (notice_room - s.notices) p.notice_place h)
+          rw (c.judges, told c.full free, ← c.calls, ← c.notices, le-ltb (call_room - s.calls) p.at.calls room, lt-ltb (notice_room - s.notices) p.at.notices h)
 
-      pub all_fits : p.notice_place ≤ notice_room - s.notices → (Ok tt) ≡ answer_of (judge_tape text s tape call_room notice_room)
+      pub all_fits : p.at.notices ≤ notice_room - s.notices → (Ok tt) ≡ answer_of (judge_tape text s tape call_room notice_room)
       unfolding fitted refuse answer_of
       all_fits h =
-          rw (c.judges, told c.full free, ← c.calls, ← c.notices, le-ltb (call_room - s.calls) p.call_place room, le-ltb (notice_room - s.notices) p.notice_place h)
+          rw (c.judges, told c.full free, ← c.calls, ← c.notices, le-ltb (call_room - s.calls) p.at.calls room, le-ltb (notice_room - s.notices) p.at.notices h)
 
 -- ---- what needs no counting
 
@@ -120,7 +119,7 @@ abbrev pub after : State → Pen → Stepped
 after s p =
     record {
       answer = Ok tt;
-      state = record { settings = s.settings; records = p.store.records; count = p.store.count; calls = p.call_place; notices = p.notice_place };
+      state = record { settings = s.settings; records = p.at.store.records; count = p.at.store.count; calls = p.at.calls; notices = p.at.notices };
     }
 
 pub written : {text : List ℕ} {s : State} {tape : List ℕ} {calls notices : MutBor (List ℕ)} {p q : Pen} → Ready text s tape (length calls.now) (length notices.now)
@@ -142,15 +141,15 @@ written {text} {s} {tape} {calls} {notices} {p} {q} ready accepts eight short sh
     let f = fits s (length cs) (length ns) l (ap answer_of (sym judges) ∙ accepts) in
     let u = ready.unforged in
     let e : Emitted s.records js (lower_root text s.settings o) before q =
-    (ran o good.1 good.2).1 s.records js
-    (state_stands text s calls notices s.calls s.notices eight u.bore (omega arith) (omega arith) (omega (arith, u.calls_within)) (omega (arith, u.notices_within))) in
-    let free : q.full ≡ false = e.fullness ∙ le-ltb 8 (length l.bound) f.0 in
+    (ran o good.1 good.2).2 s.records js
+    (state_stands text s calls notices s.calls s.notices eight u.bore (omega (arith, u.calls_within)) (omega (arith, u.notices_within))) in
+    let free : q.at.full ≡ false = e.fullness ∙ le-ltb 8 (length l.bound) f.0 in
     let x = call_room_enough e short (omega (arith, e.call_place, u.calls_within, f.1)) free in
     let y = notice_room_enough e short' (omega (arith, e.notice_place, u.notices_within, f.2)) in
     let m : after s q ≡ record { answer = Ok tt; state = moved s l } =
     (λ ι. record {
       answer = Ok tt;
-      state = record { settings = s.settings; records = q.store.records; count = q.store.count; calls = x.0 ι; notices = y.0 ι };
+      state = record { settings = s.settings; records = q.at.store.records; count = q.at.store.count; calls = x.0 ι; notices = y.0 ι };
     })
     ∙ ap (λ (t : State). record { answer = Ok tt; state = t }) (held_moved s l (e.stands.store free)) in
     rw (judges ∙ f.3) (record { answered = m; called = x.1; noticed = y.1 })

@@ -10,7 +10,7 @@ ghost use Rattle.lowering.specs.Steps.{Text, Unforged, Ready, judge_tape, tape_o
 
 use definitions::state::{State, Stepped};
 use jsx::jsx_impl::lower;
-use pen::pen::Pen;
+use pen::pen::{Pen, Progress};
 use root_check::check::check_root;
 use size_bound::call_size_bound;
 use store::forged::is_forged;
@@ -63,20 +63,22 @@ fn fit(
     let mut pen = Pen {
         calls: &mut spare,
         notices: &mut spare_notices,
-        store: store_of(state),
-        full: false,
-        notice_place: 0,
-        call_place: 0,
+        at: Progress {
+            store: store_of(state),
+            full: false,
+            notices: 0,
+            calls: 0,
+        },
     };
     lower(text, &state.settings, tape, &mut pen);
-    if pen.full {
+    if pen.at.full {
         return Err(Refusal::Bindings);
     }
-    if call_room - state.calls < pen.call_place {
-        return Err(Refusal::Space(pen.call_place));
+    if call_room - state.calls < pen.at.calls {
+        return Err(Refusal::Space(pen.at.calls));
     }
-    if notice_room - state.notices < pen.notice_place {
-        return Err(Refusal::NoticeSpace(pen.notice_place));
+    if notice_room - state.notices < pen.at.notices {
+        return Err(Refusal::NoticeSpace(pen.at.notices));
     }
     Ok(())
 }
@@ -90,18 +92,20 @@ fn write(text: &[u8], state: State, tape: &[u8], calls: &mut [u8], notices: &mut
     let mut pen = Pen {
         calls,
         notices,
-        store: store_of(state),
-        full: false,
-        notice_place: state.notices,
-        call_place: state.calls,
+        at: Progress {
+            store: store_of(state),
+            full: false,
+            notices: state.notices,
+            calls: state.calls,
+        },
     };
     lower(text, &state.settings, tape, &mut pen);
-    let records = pen.store.records;
+    let records = pen.at.store.records;
     State {
         records,
-        count: pen.store.count as usize,
-        calls: pen.call_place,
-        notices: pen.notice_place,
+        count: pen.at.store.count as usize,
+        calls: pen.at.calls,
+        notices: pen.at.notices,
         ..state
     }
 }

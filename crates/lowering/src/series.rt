@@ -17,6 +17,7 @@ use tape::refusal::{Fault, Refusal};
 use text::utf8::first_ill_formed;
 
 // The root that begins a list, behind its length, and what follows it; none where the list is cut off before its end.
+#[tactic(auto, using(crate::proofs::Listed::ahead_by))]
 pub fn next_root(roots: &[u8]) -> Option<(&[u8], &[u8])>
     ensures roots_by { (most : ℕ) → roots_from (suc most) roots.now ≡ roots_by most result }
     ensures stands { Stands roots.now result }

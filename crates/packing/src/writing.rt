@@ -7,6 +7,7 @@ use crate::layout::STATE_SIZE;
 use definitions::options::{Flags, Form, Options, Settings};
 use definitions::records::{Import, Record};
 use definitions::state::State;
+use option_values::pragma_root_number;
 use tape::refusal::Refusal;
 use tape::target::Encode;
 use text::spans::Span;
@@ -34,11 +35,11 @@ fn put_optional(o: Option<Span>, out: &mut [u8], at: usize) -> usize
     }
 }
 
-#[tactic(auto, unfolding(crate::specs::Packed::form_bytes, definitions::specs::States::root_number))]
+#[tactic(auto, unfolding(crate::specs::Packed::form_bytes))]
 fn put_form(form: Form, out: &mut [u8], at: usize) -> usize
     ensures { Wrote out.old out.new at result (form_bytes form) }
 {
-    (form.root as u8, form.tail as u64).encode(out, at)
+    (pragma_root_number(form.root), form.tail as u64).encode(out, at)
 }
 
 // What a thing is (0 named, 1 required, 2 the file name), its source and its name: zeros for what it has not.

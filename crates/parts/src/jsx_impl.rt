@@ -1,10 +1,11 @@
 // The small parts of lowering (jsx_impl.rs): tests of names, values and attributes, keys behind spreads, lone spreads, text children. Of a tape that does not read
 // nothing is promised but that no more than the tape is used.
 // kept: what is given for a tape that does not read is no error: the tape was checked before, these functions can't fail, and an error would have no reader.
-ghost use Rattle.std.specs.Prelude.{◌≡◌, length, drop, true, false, ◌&&◌, List, ◌++◌, ℕ, ◌+◌, ◌≤◌, ◌<◌, ◌^◌, Option, Some, None, IfSome};
+ghost use Rattle.std.specs.Prelude.{◌≡◌, Bool, length, drop, true, false, ◌&&◌, List, ◌++◌, ℕ, ◌+◌, ◌≤◌, ◌<◌, ◌^◌, Option, Some, None, IfSome};
 ghost use Rattle.text.specs.declared.spans.Span as spans;
 ghost use Rattle.text.specs.Spans.{part_of};
 ghost use Rattle.text.specs.Utf8.{first_ill};
+ghost use Rattle.definitions.specs.declared.options.Settings as settings;
 ghost use Rattle.definitions.specs.Judging.{done};
 ghost use Rattle.definitions.specs.Lowering as lowering;
 ghost use Rattle.root_check.specs.InOrder.{Inside};
@@ -13,7 +14,7 @@ ghost use Rattle.definitions.specs.Tree.{Name, Property, Attributes, Value};
 ghost use Rattle.definitions.specs.Reading.{members_at, name_at, properties_at, attributes_at, value_at};
 ghost use Rattle.definitions.specs.Lowering.{Output, is_key, has_value, key_notice, key_after_spread, classic_element, form_of, lower_literal, self_output, source_output};
 ghost use Rattle.pen.specs.Emitting.{Lent, Produced};
-ghost use Rattle.emit.specs.Contexts.{context_of};
+ghost use Rattle.emit.specs.Contexts.{over_text, over_both, over_other_text};
 ghost use Rattle.parts.specs.Promises.{newer, SoleAt, IsText, TextWritten, LiteralWritten, some_output, Alone, LoneWithin, FrontWithin, FrontIs, starts_with};
 
 use commands::root::{
@@ -22,7 +23,7 @@ use commands::root::{
 };
 use commands::sizes;
 use definitions::options::Mode;
-use emit::context::Context;
+use emit::context::{Context, Sound};
 use emit::jsx_impl::{has_proto, lower_literal};
 use emit::used::Used;
 use jsx_text::fixup_whitespace_and_decode_entities;
@@ -64,7 +65,7 @@ pub fn is_classic(mode: Mode) -> bool
 }
 
 fn is_key(context: &Context<'_>, span: Span) -> bool
-    ensures { result ≡ is_key (context_of context.now) span }
+    ensures { (s : settings.Settings) (b : Bool) → result ≡ is_key (over_text context.now s b) span }
 {
     part(context.text, span) == b"key".as_slice()
 }
@@ -114,8 +115,8 @@ pub fn skip_name(tape: &[u8]) -> usize
 
 // Whether the attribute at the front, a plain one, is a key with a value.
 pub fn is_valued_key(context: &Context<'_>, span: Span, value: &[u8]) -> bool
-    ensures { (f d : ℕ) (v : Value) (u : ℕ) → value_at f context.now.text.now d value.now ≡ done v u →
-        result ≡ (is_key (context_of context.now) span && has_value v) }
+    ensures { (s : settings.Settings) (b : Bool) (f d : ℕ) (v : Value) (u : ℕ) → value_at f context.now.text.now d value.now ≡ done v u →
+        result ≡ (is_key (over_text context.now s b) span && has_value v) }
 {
     is_key(context, span) && has_value(value)
 }
@@ -124,8 +125,8 @@ pub fn is_valued_key(context: &Context<'_>, span: Span, value: &[u8]) -> bool
 pub fn key_notice(context: &Context<'_>, span: Span, value: &[u8], pen: &mut Pen<'_>)
     ensures lent { Lent pen.old pen.new }
     ensures calls_stay { pen.new.calls.now ≡ pen.old.calls.now }
-    ensures notice { (f d : ℕ) (v : Value) (u : ℕ) → value_at f context.now.text.now d value.now ≡ done v u →
-        Produced (key_notice (context_of context.now) span v) pen.old pen.new }
+    ensures notice { (s : settings.Settings) (b : Bool) (f d : ℕ) (v : Value) (u : ℕ) → value_at f context.now.text.now d value.now ≡ done v u →
+        Produced (key_notice (over_text context.now s b) span v) pen.old pen.new }
 {
     if is_key(context, span) && !has_value(value) {
         pen.valueless_key(span);
@@ -171,8 +172,8 @@ pub fn children_form(count: usize, spread: bool) -> u8
 // Whether a classic call of an element has a property.
 #[tactic(auto, using(crate::proofs::Spreading::more))]
 pub fn has_more(context: &Context<'_>, some: bool) -> bool
-    ensures { (place : places.Place) (os : List Output) → some_output os ≡ some →
-        result ≡ some_output (os ++ self_output (context_of context.now) ++ source_output (context_of context.now) place) }
+    ensures { (t : List ℕ) (place : places.Place) (os : List Output) → some_output os ≡ some →
+        result ≡ some_output (os ++ self_output (over_other_text context.now t) ++ source_output (over_other_text context.now t) place) }
 {
     let flags = context.settings.options.flags;
     some || flags.source_plugin || (flags.self_plugin && context.self_allowed)
@@ -193,10 +194,11 @@ fn has_property(tape: &[u8]) -> bool
 pub fn literal_attribute(context: &Context<'_>, e: u16, tape: &[u8], pen: &mut Pen<'_>) -> Props
     requires { 3 ≤ length tape.now }
     ensures lent { Lent pen.old pen.new }
+    ensures notices_stay { pen.new.notices.now ≡ pen.old.notices.now }
     ensures moves { (result.key ≡ None) × (3 ≤ result.used) × (result.used ≤ length tape.now) }
-    ensures literal_written { (f : ℕ) (ps : List Property) (u : ℕ) → length tape.now ≤ f →
+    ensures literal_written { (s : settings.Settings) (b : Bool) (f : ℕ) (ps : List Property) (u : ℕ) → length tape.now ≤ f →
         properties_at f context.now.text.now (drop 3 tape.now) ≡ done ps u →
-        LiteralWritten (lower_literal (context_of context.now) e ps) (3 + u) pen.old pen.new result }
+        LiteralWritten (lower_literal (over_text context.now s b) e ps) (3 + u) pen.old pen.new result }
 {
     let properties = &tape[sizes::WITH_EXPRESSION..];
     let some = has_property(properties);
@@ -228,8 +230,8 @@ fn sole(tape: &[u8], e: u16, n: usize) -> Option<Used<u16>>
 // The expression that a classic call's attributes spread alone, if that is all that they are: the plugin options decide, not whether `this` may be used.
 pub fn lone_spread(context: &Context<'_>, tape: &[u8]) -> Option<Used<u16>>
     ensures lone_within { LoneWithin (length tape.now) result }
-    ensures sole_at { (f d : ℕ) (a : Attributes) (u : ℕ) → length tape.now < f →
-        attributes_at f context.now.text.now d tape.now ≡ done a u → SoleAt (context_of context.now) a u result }
+    ensures sole_at { (b : Bool) (f d : ℕ) (a : Attributes) (u : ℕ) → length tape.now < f →
+        attributes_at f context.now.text.now d tape.now ≡ done a u → SoleAt (over_both context.now b) a u result }
 {
     let flags = context.settings.options.flags;
     if flags.self_plugin || flags.source_plugin {
@@ -253,7 +255,7 @@ pub fn lone_spread(context: &Context<'_>, tape: &[u8]) -> Option<Used<u16>>
 
 // Whether a plain attribute is a key behind a spread.
 fn is_late_key(context: &Context<'_>, span: Span, seen: bool) -> bool
-    ensures { result ≡ (seen && is_key (context_of context.now) span) }
+    ensures { (s : settings.Settings) (b : Bool) → result ≡ (seen && is_key (over_text context.now s b) span) }
 {
     seen && is_key(context, span)
 }
@@ -261,8 +263,8 @@ fn is_late_key(context: &Context<'_>, span: Span, seen: bool) -> bool
 // What stands first among the attributes, unless their end does.
 fn front_attribute(context: &Context<'_>, tape: &[u8], seen: bool) -> Option<Front>
     ensures front_within { FrontWithin (length tape.now) result }
-    ensures front_is { (f d : ℕ) (a : Attributes) (u : ℕ) → length tape.now < f →
-        attributes_at f context.now.text.now d tape.now ≡ done a u → FrontIs (context_of context.now) context.now.text.now d tape.now seen f a u result }
+    ensures front_is { (s : settings.Settings) (b : Bool) (f d : ℕ) (a : Attributes) (u : ℕ) → length tape.now < f →
+        attributes_at f context.now.text.now d tape.now ≡ done a u → FrontIs (over_text context.now s b) context.now.text.now d tape.now seen f a u result }
 {
     let Ok(command) = attribute_command_at(tape) else {
         return None;
@@ -290,8 +292,8 @@ fn front_attribute(context: &Context<'_>, tape: &[u8], seen: bool) -> Option<Fro
 
 // Whether a key stands behind a spread.
 fn has_key_after_props_spread(context: &Context<'_>, tape: &[u8]) -> bool
-    ensures { (f d : ℕ) (a : Attributes) (u : ℕ) → length tape.now < f →
-        attributes_at f context.now.text.now d tape.now ≡ done a u → result ≡ key_after_spread (context_of context.now) false a }
+    ensures { (s : settings.Settings) (b : Bool) (f d : ℕ) (a : Attributes) (u : ℕ) → length tape.now < f →
+        attributes_at f context.now.text.now d tape.now ≡ done a u → result ≡ key_after_spread (over_text context.now s b) false a }
 {
     let mut rest = tape;
     let mut seen = false;
@@ -312,8 +314,8 @@ fn has_key_after_props_spread(context: &Context<'_>, tape: &[u8]) -> bool
 
 // Whether the call of an element with these attributes is classic.
 pub fn is_classic_element(context: &Context<'_>, tape: &[u8]) -> bool
-    ensures { (f d : ℕ) (a : Attributes) (u : ℕ) → length tape.now < f →
-        attributes_at f context.now.text.now d tape.now ≡ done a u → result ≡ classic_element (context_of context.now) a }
+    ensures { (b : Bool) (f d : ℕ) (a : Attributes) (u : ℕ) → length tape.now < f →
+        attributes_at f context.now.text.now d tape.now ≡ done a u → result ≡ classic_element (over_both context.now b) a }
 {
     is_classic(context.settings.mode) || has_key_after_props_spread(context, tape)
 }
@@ -322,14 +324,20 @@ pub fn is_classic_element(context: &Context<'_>, tape: &[u8]) -> bool
 const LAST_PLACE: usize = 0x8000_0000_0000_0000;
 
 // A text child that lies in the text: it is one child if it survives, else none.
-fn text_lines(context: &Context<'_>, span: Span, pen: &mut Pen<'_>) -> Items
-    requires { first_ill (part_of context.now.text.now span) ≡ None }
+fn text_lines(sound: &Sound<'_>, span: Span, pen: &mut Pen<'_>) -> Items
+    requires { first_ill (part_of sound.now.context.text.now span) ≡ None }
     ensures text { IsText result }
-    ensures text_written { TextWritten context.now.text.now span pen.old pen.new result }
+    ensures notices_stay { pen.new.notices.now ≡ pen.old.notices.now }
+    ensures text_written { TextWritten sound.now.context.text.now span pen.old pen.new result }
 {
-    let at = pen.call_place.min(LAST_PLACE);
-    let texted = fixup_whitespace_and_decode_entities(context.text, span, &mut *pen.calls, at);
-    pen.call_place = texted.at;
+    let at = pen.at.calls.min(LAST_PLACE);
+    let texted = fixup_whitespace_and_decode_entities(
+        sound.context.text,
+        span,
+        &mut *pen.calls,
+        at,
+    );
+    pen.at.calls = texted.at;
     Items {
         used: sizes::WITH_SPAN,
         count: usize::from(texted.survives),
@@ -338,17 +346,18 @@ fn text_lines(context: &Context<'_>, span: Span, pen: &mut Pen<'_>) -> Items
 }
 
 // A text child: its lines, and how many children it is, 0 or 1. A tape that reads has no span that is not in the text.
-pub fn transform_jsx_text(context: &Context<'_>, span: Span, pen: &mut Pen<'_>) -> Items
+pub fn transform_jsx_text(sound: &Sound<'_>, span: Span, pen: &mut Pen<'_>) -> Items
     ensures text { IsText result }
     ensures lent { Lent pen.old pen.new }
-    ensures text_written { Inside context.now.text.now span → TextWritten context.now.text.now span pen.old pen.new result }
+    ensures notices_stay { pen.new.notices.now ≡ pen.old.notices.now }
+    ensures text_written { Inside sound.now.context.text.now span → TextWritten sound.now.context.text.now span pen.old pen.new result }
 {
-    match span_bounds(context.text, span) {
+    match span_bounds(sound.context.text, span) {
         Bounds::Outside | Bounds::Cuts => Items {
             used: sizes::WITH_SPAN,
             count: 0,
             spread: false,
         },
-        Bounds::Empty | Bounds::Good => text_lines(context, span, pen),
+        Bounds::Empty | Bounds::Good => text_lines(sound, span, pen),
     }
 }

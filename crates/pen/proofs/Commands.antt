@@ -16,7 +16,7 @@ use Rattle.definitions.proofs.Counting.{either_false}
 use Rattle.store.specs.Adding.{added, Adds}
 use Rattle.store.proofs.Adding.{held_adds}
 use Rattle.pen.specs.declared.pen.Pen.{Pen}
-use Rattle.pen.specs.Emitting.{calls_from, notices_from, bound_from, numbered_pen, WroteCall, WroteNotice, Produced, Stands, Lent, Emitted}
+use Rattle.pen.specs.Emitting.{calls_from, notices_from, bound_from, numbered_pen, WroteCall, WroteNotice, Produced, Stands, Lent, Short, Emitted}
 use Rattle.pen.proofs.Emitting.{standing_full, lent_then}
 
 -- the bytes of one command
@@ -55,20 +55,18 @@ module _ {p p₁ p₂ : Pen} {bs ds : List ℕ} where
 
 module _ {c : Command Import} {bs : List ℕ} {p p' : Pen} where
   pub called_plain : ((js : List Import) → bound_by js c ≡ js) → ((js : List Import) → bytes_of (numbered js c) ≡ bs)
-      → Lent p p' → (length p.calls.now ≤ 2 ^ 63 → WroteCall bs p p') → Produced (emit c ∷ []) p p'
+      → Lent p p' → Short p → WroteCall bs p p' → Produced (emit c ∷ []) p p'
   unfolding notices_of notice_bytes
-  called_plain binds bytes lent part = (
+  called_plain binds bytes lent short w = (
     lent,
+    short,
     λ a js s.
-        let w = part s.calls_short in
         let e : bound_from js (emit c ∷ []) ≡ js = bound_one js c ∙ binds js in
         let f : calls_from js (emit c ∷ []) ≡ bs = calls_one js c ∙ bytes js in
         record {
           fullness = rw (e, w.full) (standing_full s);
           stands = rw e (record {
             store = rw (w.full, w.store) s.store;
-            calls_short = omega (arith, wrote_length w.wrote, s.calls_short);
-            notices_short = omega (arith, ap length w.notices, s.notices_short);
             calls_small = wrote_small w.wrote;
             notices_small = omega (arith, w.notice_place, s.notices_small);
           });
@@ -91,35 +89,32 @@ module _ {c : Command Import} (i : Import) {p p' : Pen} where
   -- its bytes have the number, or any other byte, in one place
   pub called_bound : (bytes : ℕ → List ℕ) → ((js : List Import) → bound_by js c ≡ bound js i)
       → ((js : List Import) → bytes_of (numbered js c) ≡ bytes (number_in js i)) → ((k m : ℕ) → length (bytes k) ≡ length (bytes m))
-      → Lent p p' → (length p.calls.now ≤ 2 ^ 63 → WroteCall (bytes (unwrap_or (added p.store i).number 0)) (numbered_pen p i) p') → Produced (emit c ∷ []) p p'
+      → Lent p p' → Short p → WroteCall (bytes (unwrap_or (added p.at.store i).number 0)) (numbered_pen p i) p' → Produced (emit c ∷ []) p p'
   unfolding notices_of notice_bytes
-  called_bound bytes binds written size lent part = (lent, go)
+  called_bound bytes binds written size lent short w = (lent, short, go)
     where
-      adds : {a : List Record} {js : List Import} → Stands a js p → p.full ≡ false → Adds a js i (added p.store i)
+      adds : {a : List Record} {js : List Import} → Stands a js p → p.at.full ≡ false → Adds a js i (added p.at.store i)
       adds s free = held_adds i (s.store free)
 
-      full : {a : List Record} {js : List Import} → Stands a js p → (b : Bool) → p.full ≡ b → (b || is_none (added p.store i).number) ≡ (b || ltb 8 (length (bound js i)))
+      full : {a : List Record} {js : List Import} → Stands a js p → (b : Bool) → p.at.full ≡ b → (b || is_none (added p.at.store i).number) ≡ (b || ltb 8 (length (bound js i)))
       full s true free = refl
       full s false free = (adds s free).fullness
 
       go : (a : List Record) (js : List Import) → Stands a js p → Emitted a js (emit c ∷ []) p p'
       go a js s =
-          let w = part s.calls_short in
           let e : bound_from js (emit c ∷ []) ≡ bound js i = bound_one js c ∙ binds js in
           let f : calls_from js (emit c ∷ []) ≡ bytes (number_in js i) = calls_one js c ∙ written js in
           record {
-            fullness = rw (e, w.full) (full s p.full refl);
+            fullness = rw (e, w.full) (full s p.at.full refl);
             stands = rw e (record {
-              store = λ free. let h = either_false p.full (is_none (added p.store i).number) (rw (← w.full) free) in rw w.store ((adds s h.0).holds h.1);
-              calls_short = omega (arith, wrote_length w.wrote, s.calls_short);
-              notices_short = omega (arith, ap length w.notices, s.notices_short);
+              store = λ free. let h = either_false p.at.full (is_none (added p.at.store i).number) (rw (← w.full) free) in rw w.store ((adds s h.0).holds h.1);
               calls_small = wrote_small w.wrote;
               notices_small = omega (arith, w.notice_place, s.notices_small);
             });
-            call_place = rw f (omega (arith, w.wrote.next, size (unwrap_or (added p.store i).number 0) (number_in js i)));
+            call_place = rw f (omega (arith, w.wrote.next, size (unwrap_or (added p.at.store i).number 0) (number_in js i)));
             calls = λ free.
-                let h = either_false p.full (is_none (added p.store i).number) (rw (← w.full) free) in
-                let k : unwrap_or (added p.store i).number 0 ≡ number_in js i = ap (λ (o : Option ℕ). unwrap_or o 0) ((adds s h.0).number h.1) in
+                let h = either_false p.at.full (is_none (added p.at.store i).number) (rw (← w.full) free) in
+                let k : unwrap_or (added p.at.store i).number 0 ≡ number_in js i = ap (λ (o : Option ℕ). unwrap_or o 0) ((adds s h.0).number h.1) in
                 rw (f, ← k) w.wrote.holds;
             notice_place = omega (arith, w.notice_place, s.notices_small);
             notices = w.notices;
@@ -128,19 +123,17 @@ module _ {c : Command Import} (i : Import) {p p' : Pen} where
 -- ---- a notice
 
 module _ {x : Notice} {p p' : Pen} where
-  pub noticed_one : Lent p p' → (length p.notices.now ≤ 2 ^ 63 → WroteNotice (notice_bytes_of x) p p') → Produced (notify x ∷ []) p p'
+  pub noticed_one : Lent p p' → Short p → WroteNotice (notice_bytes_of x) p p' → Produced (notify x ∷ []) p p'
   unfolding commands_of notices_of notice_bytes bound_after numbered_all call_bytes
-  noticed_one lent part = (
+  noticed_one lent short w = (
     lent,
+    short,
     λ a js s.
-        let w = part s.notices_short in
         let f : notices_from (notify x ∷ []) ≡ notice_bytes_of x = append-nil (notice_bytes_of x) in
         record {
           fullness = rw w.full (standing_full s);
           stands = record {
             store = rw (w.full, w.store) s.store;
-            calls_short = omega (arith, ap length w.calls, s.calls_short);
-            notices_short = omega (arith, wrote_length w.wrote, s.notices_short);
             calls_small = omega (arith, w.call_place, s.calls_small);
             notices_small = wrote_small w.wrote;
           };

@@ -26,20 +26,18 @@ use Rattle.pen.specs.Emitting.{calls_from, notices_from, bound_from, Stands, Emi
 -- a pen over a state's store, into these targets from these places on
 abbrev pub pen_of : State → MutBor (List ℕ) → MutBor (List ℕ) → ℕ → ℕ → Pen
 pen_of s calls notices call_place notice_place =
-    record { calls = calls; notices = notices; store = store_of s; full = false; notice_place = notice_place; call_place = call_place }
+    record { calls = calls; notices = notices; at = record { store = store_of s; full = false; notices = notice_place; calls = call_place } }
 
 pub pen_is : (s : State) {x : Store} (calls notices : MutBor (List ℕ)) (call_place notice_place : ℕ) → x ≡ store_of s
-    → record { calls = calls; notices = notices; store = x; full = false; notice_place = notice_place; call_place = call_place } ≡ pen_of s calls notices call_place notice_place
+    → record { calls = calls; notices = notices; at = record { store = x; full = false; notices = notice_place; calls = call_place } } ≡ pen_of s calls notices call_place notice_place
 pen_is s calls notices call_place notice_place e =
-    ap (λ (x : Store). record { calls = calls; notices = notices; store = x; full = false; notice_place = notice_place; call_place = call_place }) e
+    ap (λ (x : Store). record { calls = calls; notices = notices; at = record { store = x; full = false; notices = notice_place; calls = call_place } }) e
 
 pub state_stands : (text : List ℕ) (s : State) (calls notices : MutBor (List ℕ)) (call_place notice_place : ℕ) → length s.records ≡ 8 → sound text s ≡ true
-    → length calls.now ≤ 2 ^ 63 → length notices.now ≤ 2 ^ 63 → call_place ≤ 2 ^ 63 → notice_place ≤ 2 ^ 63
+    → call_place ≤ 2 ^ 63 → notice_place ≤ 2 ^ 63
     → Stands s.records (imports (live s)) (pen_of s calls notices call_place notice_place)
-state_stands text s calls notices call_place notice_place eight good short short' h k = record {
+state_stands text s calls notices call_place notice_place eight good h k = record {
   store = λ free. sound_holds text s good eight;
-  calls_short = short;
-  notices_short = short';
   calls_small = h;
   notices_small = k;
 }
@@ -59,11 +57,11 @@ module _ (text tape : List ℕ) (s : Settings) (js : List Import) (r : Root) (u 
   notices_small = omega (arith, notices_weigh (lower_root text s r), output_small)
 
   -- a pen that counted from nothing tells the sizes
-  pub counted : {a : List Record} {p p' : Pen} → p.call_place ≡ 0 → p.notice_place ≡ 0 → p.full ≡ false
+  pub counted : {a : List Record} {p p' : Pen} → p.at.calls ≡ 0 → p.at.notices ≡ 0 → p.at.full ≡ false
       → Emitted a js (lower_root text s r) p p'
-      → (p'.full ≡ ltb 8 (length (lowered_after text s js r).bound))
-      × (p'.call_place ≡ length (lowered_after text s js r).calls)
-      × (p'.notice_place ≡ length (lowered_after text s js r).notices)
+      → (p'.at.full ≡ ltb 8 (length (lowered_after text s js r).bound))
+      × (p'.at.calls ≡ length (lowered_after text s js r).calls)
+      × (p'.at.notices ≡ length (lowered_after text s js r).notices)
   unfolding lowered_after
   counted x y z e = (
     e.fullness ∙ ap (λ (b : Bool). b || ltb 8 (length (bound_from js (lower_root text s r)))) z,

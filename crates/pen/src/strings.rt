@@ -1,4 +1,5 @@
 // Strings of the call tape (jsx_impl.rs).
+ghost use Rattle.std.specs.Prelude.{◌≡◌};
 ghost use Rattle.definitions.specs.Lowering.{piece, quoted, colonized};
 ghost use Rattle.pen.specs.Emitting.{Produced};
 
@@ -9,7 +10,8 @@ use text::spans::Span;
 impl<'a> Pen<'a> {
     // A piece of a string: a span, or nothing where it is empty.
     pub fn put_piece(&mut self, span: Span)
-        ensures { Produced (piece span) self.old self.new }
+        ensures notices_stay { self.new.notices.now ≡ self.old.notices.now }
+        ensures written { Produced (piece span) self.old self.new }
     {
         if span.len == 0 {
             return;
@@ -19,7 +21,8 @@ impl<'a> Pen<'a> {
 
     // A string of one span.
     pub fn put_string(&mut self, span: Span)
-        ensures { Produced (quoted (piece span)) self.old self.new }
+        ensures notices_stay { self.new.notices.now ≡ self.old.notices.now }
+        ensures written { Produced (quoted (piece span)) self.old self.new }
     {
         self.put_bare(Bare::StringBegin);
         self.put_piece(span);
@@ -28,7 +31,8 @@ impl<'a> Pen<'a> {
 
     // A string of a namespace, a colon and a name.
     pub fn put_namespaced(&mut self, namespace: Span, name: Span)
-        ensures { Produced (colonized namespace name) self.old self.new }
+        ensures notices_stay { self.new.notices.now ≡ self.old.notices.now }
+        ensures written { Produced (colonized namespace name) self.old self.new }
     {
         self.put_bare(Bare::StringBegin);
         self.put_piece(namespace);

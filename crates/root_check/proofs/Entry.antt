@@ -124,7 +124,7 @@ module _ (text t : List ℕ) where
 
   -- a heritage stands there, and the scopes behind it were scanned as s
   module _ {h : Heritage} {q s : Scan} (e : heritage_command t ≡ Ok h) (R : Reports (λ f l. report (scopes_at f text false l)) (part 2 t) q) (i : s ≡ shifted 2 q) where
-    root_heritage : closed (length t) s ≡ checked (read_root text t)
+    pub root_heritage : closed (length t) s ≡ checked (read_root text t)
     unfolding root_by
     root_heritage =
         sym (root_told _ e

@@ -364,7 +364,7 @@ passed_none tape = record {
   same = omega arith;
 }
 
-open_behind_le : (code n : ℕ) → open_behind code n ≤ suc n
+pub open_behind_le : (code n : ℕ) → open_behind code n ≤ suc n
 unfolding open_behind
 open_behind_le code n = go (eqb code 0x10 || eqb code 0x11) (eqb code 0x1f)
   where

@@ -62,6 +62,7 @@ pub fn skip_value(tape: &[u8]) -> usize
 
 // How many bytes the properties at the front of the tape take, with the 35 that ends them, if they read; otherwise those up to where none stands.
 // kept: how far is what is told, so it is counted: of what is left it would be a difference at both returns.
+#[tactic(auto, using(crate::proofs::Literals::properties_left_none, crate::proofs::Literals::properties_skipped))]
 pub fn skip_properties(tape: &[u8]) -> usize
     ensures within { result ≤ length tape.now }
     ensures read { (f : ℕ) (text : List ℕ) (ps : List Property) (u : ℕ) → length tape.now < f →

@@ -1,4 +1,6 @@
 // Cases that are made by rule, over the text `a`.
+ghost use Rattle.std.specs.Prelude.{◌≤◌, length};
+
 use crate::listed::show;
 use root_check::check::{TapeError, check_root};
 use root_check::skip::{skip_properties, skip_value};
@@ -8,13 +10,15 @@ use tape::target::Encode;
 
 // ---- tapes
 
-// Lays bytes into the tape from `at` on so many times, and says where they end.
-fn repeat(tape: &mut [u8], at: usize, bytes: &[u8], times: usize) -> usize {
+// Lays bytes into the tape from `at` on so many times, as far as there is room, and says where they end.
+fn repeat(tape: &mut [u8], at: usize, bytes: &[u8], times: usize) -> usize
+    ensures { result ≤ length tape.new }
+{
     let mut end = at;
     for _ in 0..times {
         end = bytes.encode(tape, end);
     }
-    end
+    end.min(tape.len())
 }
 
 // The answer to the first n bytes.

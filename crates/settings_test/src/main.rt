@@ -49,13 +49,15 @@ fn escaped(letter: u8) -> u8 {
     }
 }
 
-// The first byte that is meant in a part in quotes, and what stands behind it; none at the end of the part.
+// The first byte that is meant in a part in quotes, and what stands behind it; none at the end of the part. A backslash at the end of the line means none, and
+// `\x` with fewer than two digits behind it is byte 0 and the last.
 fn unquoted<'a>(line: &'a [u8]) -> Option<(u8, &'a [u8])>
     ensures { IfSome result (λ p. length p.1.now < length line.now) }
 {
     match line {
-        [] | [b'"', ..] => None,
+        [] | [b'"', ..] | [b'\\'] => None,
         [b'\\', b'x', high, low, behind @ ..] => Some((byte_of(*high, *low), behind)),
+        [b'\\', b'x', ..] => Some((0, &line[line.len()..])),
         [b'\\', letter, behind @ ..] => Some((escaped(*letter), behind)),
         [b, behind @ ..] => Some((*b, behind)),
     }
@@ -130,7 +132,7 @@ impl Draft {
         self.tape_end = span.encode(&mut self.tape, next);
     }
 
-    // A command for each part in quotes, by the first letter before it.
+    // A command for each part in quotes, by the first letter before it. Blanks and NUL bytes are none.
     fn put_parts(&mut self, line: &[u8]) {
         let mut letter = None;
         let mut left = line;
@@ -141,7 +143,7 @@ impl Draft {
                 left = self.write_quoted(left);
                 self.put_command(command_of(letter), start);
                 letter = None;
-            } else if letter.is_none() && *b != b' ' {
+            } else if letter.is_none() && *b != b' ' && *b != 0 {
                 letter = Some(*b);
             }
         }

@@ -39,6 +39,7 @@ impl Store {
 }
 
 // The record tape into the target: refusals 1, 2, 12 and 10, in this order, leave the target as it is.
+#[tactic(auto, unfolding(definitions::specs::Entries::judge_records, definitions::specs::Entries::records_answer, definitions::specs::Entries::records_target, crate::specs::Judging::behind))]
 pub fn write_records(text: &[u8], state: State, target: &mut [u8]) -> Result<usize, Refusal>
     ensures value { result ≡ records_answer (judge_records text.now state (length target.old)) }
     ensures target_after { target.new ≡ records_target target.old (judge_records text.now state (length target.old)) }

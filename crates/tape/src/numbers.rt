@@ -1,8 +1,22 @@
 // Numbers on tapes and in a state's bytes: little-endian, of one, two, four or eight bytes.
-ghost use Rattle.std.specs.Prelude.{◌≡◌, ◌+◌, ◌≤◌, ℕ, List, length, get_or};
+ghost use Rattle.std.specs.Prelude.{◌≡◌, ◌+◌, ◌*◌, ◌≤◌, ℕ, List, length, get_or};
 ghost use Rattle.tape.specs.Numbers.{u16_at, u32_at, u64_at, span_at};
 
 use text::spans::Span;
+
+// The number of two bytes, the low one first.
+fn word(a: u8, b: u8) -> u16
+    ensures { result ≡ a + b * 256 }
+{
+    (a as u16) | ((b as u16) << 8)
+}
+
+// The number of four bytes, the lowest first.
+fn long(a: u8, b: u8, c: u8, d: u8) -> u32
+    ensures { result ≡ a + b * 256 + c * 65536 + d * 16777216 }
+{
+    (a as u32) | ((b as u32) << 8) | ((c as u32) << 16) | ((d as u32) << 24)
+}
 
 // What a tape carries behind a command's code: a value that takes SIZE bytes, and can be read off any place that has them.
 pub trait Operand {
@@ -37,7 +51,7 @@ impl Operand for u16 {
     const SIZE: usize = 2;
 
     fn read(tape: &[u8], at: usize) -> u16 {
-        u16::from_le_bytes([tape[at], tape[at + 1]])
+        word(tape[at], tape[at + 1])
     }
 }
 
@@ -49,7 +63,7 @@ impl Operand for u32 {
     const SIZE: usize = 4;
 
     fn read(tape: &[u8], at: usize) -> u32 {
-        u32::from_le_bytes([tape[at], tape[at + 1], tape[at + 2], tape[at + 3]])
+        long(tape[at], tape[at + 1], tape[at + 2], tape[at + 3])
     }
 }
 

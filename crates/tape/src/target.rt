@@ -43,17 +43,11 @@ impl Encode for u8 {
 impl<'a> Encode for &'a [u8] {
     ghost bytes = { λ s. s.now };
 
-    // One test where there is room for nothing, one more where there is room for all: inlined, it stores a number's bytes at once.
-    #[inline(always)]
-    #[tactic(auto, using(crate::proofs::Targets::sets_out, crate::proofs::Targets::sets_mid, crate::proofs::Targets::wrote_as))]
+    // Byte by byte: a copy of a length that isn't known here would call the C library.
+    #[tactic(auto, using(crate::proofs::Targets::sets_out, crate::proofs::Targets::wrote_as))]
     fn encode(self, out: &mut [u8], at: usize) -> usize {
         if out.len() <= at {
             return at.min(LAST_PLACE - self.len()) + self.len();
-        }
-        if self.len() <= out.len() - at {
-            let end = at + self.len();
-            out[at..end].copy_from_slice(self);
-            return end;
         }
         let mut next = at;
         for b in self {
@@ -66,8 +60,20 @@ impl<'a> Encode for &'a [u8] {
 impl<const N: usize> Encode for [u8; N] {
     ghost bytes = { λ a. a };
 
+    // One test where there is room for nothing, one more where there is room for all: inlined, it stores a number's bytes at once.
+    #[inline(always)]
+    #[tactic(auto, using(crate::proofs::Targets::sets_out, crate::proofs::Targets::sets_mid, crate::proofs::Targets::wrote_as))]
     fn encode(self, out: &mut [u8], at: usize) -> usize {
-        self.as_slice().encode(out, at)
+        let bytes = self.as_slice();
+        if out.len() <= at {
+            return at.min(LAST_PLACE - bytes.len()) + bytes.len();
+        }
+        if bytes.len() <= out.len() - at {
+            let end = at + bytes.len();
+            out[at..end].copy_from_slice(bytes);
+            return end;
+        }
+        bytes.encode(out, at)
     }
 }
 
@@ -87,8 +93,7 @@ impl Encode for u16 {
     ghost bytes = { u16_bytes };
 
     fn encode(self, out: &mut [u8], at: usize) -> usize {
-        let [low, high] = self.to_le_bytes();
-        [low, high].encode(out, at)
+        [((self << 8) >> 8) as u8, (self >> 8) as u8].encode(out, at)
     }
 }
 
@@ -96,7 +101,13 @@ impl Encode for u32 {
     ghost bytes = { u32_bytes };
 
     fn encode(self, out: &mut [u8], at: usize) -> usize {
-        self.to_le_bytes().encode(out, at)
+        [
+            ((self << 24) >> 24) as u8,
+            ((self << 16) >> 24) as u8,
+            ((self << 8) >> 24) as u8,
+            (self >> 24) as u8,
+        ]
+        .encode(out, at)
     }
 }
 
@@ -113,9 +124,13 @@ impl Encode for Span {
     ghost bytes = { span_bytes };
 
     fn encode(self, out: &mut [u8], at: usize) -> usize {
-        let [a, b] = self.start.to_le_bytes();
-        let [c, d] = self.len.to_le_bytes();
-        [a, b, c, d].encode(out, at)
+        [
+            ((self.start << 8) >> 8) as u8,
+            (self.start >> 8) as u8,
+            ((self.len << 8) >> 8) as u8,
+            (self.len >> 8) as u8,
+        ]
+        .encode(out, at)
     }
 }
 

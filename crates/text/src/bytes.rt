@@ -1,8 +1,11 @@
 // Bytes compared with a fixed word, and searched.
-ghost use Rattle.std.specs.Prelude.{◌≡◌, true, ℕ, Bool, List, ◌≤◌, ◌<◌, length, drop, eqb};
+ghost use Rattle.std.specs.Prelude.{◌≡◌, true, ℕ, Bool, List, ◌≤◌, ◌<◌, ◌%◌, length, drop, eqb};
 ghost use Rattle.std.specs.Fn.{FnReturnsAt};
 ghost use Rattle.text.specs.Bytes.{find_from, find, over_ascii};
 ghost use Rattle.text.specs.Bytes as bytes;
+
+// The first byte that is not ASCII.
+pub const ASCII_END: u8 = 0x80;
 
 // Whether two slices have the same bytes.
 pub fn same(a: &[u8], b: &[u8]) -> bool
@@ -28,7 +31,7 @@ fn lacks(s: &[u8], b: u8) -> bool
 fn is_ascii(s: &[u8]) -> bool
     ensures { result ≡ true → find over_ascii s.now ≡ None }
 {
-    s.iter().fold(0, |all, x| all | *x).is_ascii()
+    s.iter().fold(0, |all, x| all | *x) < ASCII_END
 }
 
 // How many bytes the blocks of this size have at the front of `s` that pass a test.
@@ -36,6 +39,7 @@ pub fn passed_blocks<F: Fn(&[u8]) -> bool>(s: &[u8], size: usize, passes: F) -> 
     requires size_nonzero { 0 < size }
     requires callable { F.IsAlwaysCallable passes }
     ensures inside { result ≤ length s.now }
+    ensures whole { result % size ≡ 0 }
     ensures passed { (p : ℕ → Bool) → ((block : List ℕ) → FnReturnsAt F.Fn passes block true → find p block ≡ None) → find p s.now ≡ find_from p result (drop result s.now) }
 {
     let mut passed = 0;

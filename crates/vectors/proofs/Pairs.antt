@@ -9,7 +9,7 @@ use native.Mathlib.Omega.{arith}
 use lib.ListN.{length, get_or, take, drop, set, length-set}
 use lib.Seq.{take_all, take_at, take-suc-set, length-take-le}
 use Rattle.vectors.specs.Lines.{is_blank, inked}
-use Rattle.text.proofs.Lists.{tail_part}
+use Rattle.text.proofs.Lists.{drop_one, tail_part}
 use Rattle.vectors.specs.Values.{digit_of, paired, hex_bytes}
 use Rattle.vectors.proofs.Cutting.{inked_more, inked_all, inked_front}
 
@@ -57,6 +57,17 @@ at_pair s l e h = hex_inked s ∙ ap hex_bytes (sym e) ∙ go l h unblank
 pub first_pair : (s l : List ℕ) (x y : ℕ) → l ≡ inked s → 2 ≤ length l → digit_of (get_or l 0 0) ≡ Some x → digit_of (get_or l 1 0) ≡ Some y
     → hex_bytes s ≡ (x * 16 + y) ∷ hex_bytes (take (length l - 2) (drop 2 l))
 first_pair s l x y e h p q = at_pair s l e h ∙ rw (p, q) (ap (λ (m : List ℕ). (x * 16 + y) ∷ hex_bytes m) (sym (tail_part l 2)))
+
+-- a pair at a place of the text where no blank stands
+pub hex_pair : (s : List ℕ) (i x y : ℕ) → i + 2 ≤ length s → is_blank (get_or s i 0) ≡ false → digit_of (get_or s i 0) ≡ Some x
+    → digit_of (get_or s (i + 1) 0) ≡ Some y → hex_bytes (drop i s) ≡ (x * 16 + y) ∷ hex_bytes (drop (i + 2) s)
+unfolding hex_bytes
+hex_pair s i x y h ink p q = ap hex_bytes two_front ∙ rw (ink, p, q)
+  where
+    two_front : drop i s ≡ get_or s i 0 ∷ get_or s (i + 1) 0 ∷ drop (i + 2) s
+    two_front =
+        let e : i + 1 + 1 ≡ i + 2 = omega arith in
+        drop_one s i (omega arith) ∙ rw (drop_one s (i + 1) (omega arith), e)
 
 -- `left` is what is left of the text, and n bytes of a target of m hold what was read of it says
 pub record Came (s : List ℕ) (m : ℕ) (out : List ℕ) (n : ℕ) (left : List ℕ) : Type 0 where

@@ -9,7 +9,7 @@ use Rattle.lowering.proofs.fit.Goals.{After-lower}
 told : (c : After-lower)
     → Counted c.args.text.now c.args.state c.args.tape.now c.args.call_room c.args.notice_room c.lower.new.pen
 told c =
-    counts c.requires (omega arith) (omega arith) (omega arith) (pen_is c.args.state _ _ _ _ c.store_of.ensures) c.lower.ensures.written
+    counts c.requires (omega arith) (pen_is c.args.state _ _ _ _ c.store_of.ensures) c.lower.ensures.written
 
 pub store_of-requires : goal.store_of-requires
 store_of-requires c =

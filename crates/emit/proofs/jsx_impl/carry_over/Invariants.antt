@@ -12,6 +12,7 @@ use Rattle.emit.proofs.jsx_impl.carry_over.Given as goal
 abbrev pub invariant-loop-property : goal.invariant-loop-property
 invariant-loop-property l =
     Lent l.initial.pen l.pen
+    × (l.pen.notices.now ≡ l.initial.pen.notices.now)
     × ((text : List ℕ) (f : ℕ) (ps : List Property) (u : ℕ) → length l.tape < f → properties_at f text l.tape ≡ done ps u
     → PropertiesLeft text l.tape ps u l.rest (Carried ps l.initial.pen l.pen))
 

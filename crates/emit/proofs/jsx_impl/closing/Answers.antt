@@ -3,7 +3,7 @@ use Rattle.definitions.specs.Lowering.{pure_byte}
 use Rattle.pen.proofs.Emitting.{produced_then}
 use Rattle.emit.proofs.jsx_impl.closing.Goals as goal
 
-pub returns : goal.returns
-returns c =
+pub returns-clause-written : goal.returns-clause-written
+returns-clause-written c =
     let e : c.from.result ≡ pure_byte c.args.context.now.settings.now.pure = search rules in
-    produced_then c.put_bare.ensures (produced_then c.get_create_element.ensures (rw (← e) c.put_byte.ensures))
+    produced_then c.put_bare.ensures.written (produced_then c.get_create_element.ensures.written (rw (← e) c.put_byte.ensures.written))

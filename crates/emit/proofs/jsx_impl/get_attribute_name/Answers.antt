@@ -3,11 +3,11 @@ use Rattle.definitions.specs.Lowering.{attribute_name, is_found}
 use Rattle.pen.proofs.Emitting.{produced_then}
 use Rattle.emit.proofs.jsx_impl.get_attribute_name.Goals as goal
 
-pub returns-in-Some : goal.returns-in-Some
+pub returns-in-Some-clause-written : goal.returns-in-Some-clause-written
 unfolding attribute_name is_found bare_code
-returns-in-Some c = rw (← c.part.ensures, ← c.in-Some.ensures)
-    (produced_then c.put_bare.ensures c.put_string.ensures)
+returns-in-Some-clause-written c = λ s b. rw (← c.part.ensures, ← c.in-Some.ensures)
+    (produced_then c.put_bare.ensures.written c.put_string.ensures.written)
 
-pub returns-in-None : goal.returns-in-None
+pub returns-in-None-clause-written : goal.returns-in-None-clause-written
 unfolding attribute_name is_found span_code
-returns-in-None c = rw (← c.part.ensures, ← c.in-None.ensures) c.put_spanned.ensures
+returns-in-None-clause-written c = λ s b. rw (← c.part.ensures, ← c.in-None.ensures) c.put_spanned.ensures.written

@@ -1,6 +1,6 @@
 use Rattle.definitions.specs.Lowering.{no_key}
 use Rattle.emit.proofs.jsx_impl.no_key.Goals as goal
 
-pub returns : goal.returns
+pub returns-clause-written : goal.returns-clause-written
 unfolding no_key
-returns c = c.in_development.ensures
+returns-clause-written c = c.in_development.ensures.written

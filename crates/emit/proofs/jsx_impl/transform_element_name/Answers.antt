@@ -41,34 +41,34 @@ slice_bounds-transform_jsx_member_expression-start-in-Ok-This c =
 
 pub returns-after-context-clause-written : goal.returns-after-context-clause-written
 unfolding lower_name
-returns-after-context-clause-written c = λ text f n u h r.
+returns-after-context-clause-written c = λ t b text f n u h r.
     let q = name_namespaced f text c.args.tape.now n u r c.in-Ok-Namespaced.namespace c.in-Ok-Namespaced.name (namespaced (goal.at.returns-after-context-clause-written c).In-Ok-Namespaced) in
     elim c.if-context.branch [
-      | then-context w ↦ rw (← q, w.if-context.true) (produced_then w.namespace_does_not_support.ensures.notice (rw w.pen-is at c.put_namespaced.ensures))
-      | else-context w ↦ rw (← q, w.if-context.false) (rw w.pen-is at c.put_namespaced.ensures)
+      | then-context w ↦ rw (← q, w.if-context.true) (produced_then w.namespace_does_not_support.ensures.notice (rw w.pen-is at c.put_namespaced.ensures.written))
+      | else-context w ↦ rw (← q, w.if-context.false) (rw w.pen-is at c.put_namespaced.ensures.written)
     ]
 
 pub returns-in-Ok-Plain-clause-written : goal.returns-in-Ok-Plain-clause-written
 unfolding lower_name
 returns-in-Ok-Plain-clause-written c =
     let e : c.name_command_at.result ≡ Ok (command.Plain c.in-Ok-Plain.name) = cc in
-    λ text f n u h r. rw (← name_plain f text c.args.tape.now n u r c.in-Ok-Plain.name (told c.name_command_at.ensures e)) c.put_string.ensures
+    λ t b text f n u h r. rw (← name_plain f text c.args.tape.now n u r c.in-Ok-Plain.name (told c.name_command_at.ensures e)) c.put_string.ensures.written
 
 pub returns-in-Ok-Identifier-clause-written : goal.returns-in-Ok-Identifier-clause-written
 unfolding lower_name span_code
-returns-in-Ok-Identifier-clause-written c = λ text f n u h r.
+returns-in-Ok-Identifier-clause-written c = λ t b text f n u h r.
     let m = name_identifier f text c.args.tape.now n u r c.in-Ok-Identifier.name (identifier (goal.at.returns-in-Ok-Identifier-clause-written c).In-Ok-Identifier) in
     rw (← m.is)
-    (produced_then c.put_spanned.ensures
+    (produced_then c.put_spanned.ensures.written
     (c.transform_jsx_member_expression.ensures.written text f m.members m.size (part_short c.args.tape.now 5 f h) (in_part (members_at f text) c.args.tape.now 5 m.reads)))
 
 pub returns-in-Ok-This-clause-written : goal.returns-in-Ok-This-clause-written
 unfolding lower_name bare_code
-returns-in-Ok-This-clause-written c = λ text f n u h r.
+returns-in-Ok-This-clause-written c = λ t b text f n u h r.
     let m = name_this f text c.args.tape.now n u r (this (goal.at.returns-in-Ok-This-clause-written c).In-Ok-This) in
     rw (← m.is)
-    (produced_then c.put_bare.ensures
+    (produced_then c.put_bare.ensures.written
     (c.transform_jsx_member_expression-in-Ok-This.ensures.written text f m.members m.size (part_short c.args.tape.now 1 f h) (in_part (members_at f text) c.args.tape.now 1 m.reads)))
 
 pub returns-in-Err-clause-written : goal.returns-in-Err-clause-written
-returns-in-Err-clause-written c = λ text f n u h r. name_error f text c.args.tape.now n u r (told c.name_command_at.ensures c.in-Err.is)
+returns-in-Err-clause-written c = λ t b text f n u h r. name_error f text c.args.tape.now n u r (told c.name_command_at.ensures c.in-Err.is)

@@ -1,4 +1,4 @@
-use Rattle.std.proofs.Common.{◌≡◌, ◌≤◌, Ok, Some, None, length, arith}
+use Rattle.std.proofs.Common.{◌≡◌, ◌≤◌, ◌∙◌, Ok, Some, None, length, refl, arith}
 use Rattle.commands.specs.Root.{member_command}
 use Rattle.commands.proofs.Lengths.{member_fits}
 use Rattle.definitions.specs.Calls.{span_code}
@@ -16,7 +16,7 @@ fits : (c : In-Ok-Some) → 5 ≤ length c.loop-name.rest.now
 fits c = member_fits c.loop-name.rest.now (seen c)
 
 pub loop-name-init : goal.loop-name-init
-loop-name-init c = (lent_none, λ text f ms u h e. members_begin _ h e)
+loop-name-init c = (lent_none, refl, λ text f ms u h e. members_begin (record { calls = omega arith; notices = omega arith }) h e)
 
 pub slice_bounds-rest-count : goal.slice_bounds-rest-count
 slice_bounds-rest-count c = fits (goal.at.slice_bounds-rest-count c).In-Ok-Some
@@ -30,15 +30,16 @@ loop-name-smaller c = part_smaller c.loop-name.rest.now 5 (omega arith) (fits (g
 pub loop-name-preserved : goal.loop-name-preserved
 unfolding span_code
 loop-name-preserved c = (
-  lent_then c.loop-name.invariant.0 c.put_spanned.ensures.0,
-  λ text f ms u h e. members_more (c.loop-name.invariant.1 text f ms u h e) (seen (goal.at.loop-name-preserved c).In-Ok-Some) (tail_part c.loop-name.rest.now 5)
-      c.put_spanned.ensures,
+  lent_then c.loop-name.invariant.0 c.put_spanned.ensures.written.0,
+  c.put_spanned.ensures.notices_stay ∙ c.loop-name.invariant.1,
+  λ text f ms u h e. members_more (c.loop-name.invariant.2 text f ms u h e) (seen (goal.at.loop-name-preserved c).In-Ok-Some) (tail_part c.loop-name.rest.now 5)
+      c.put_spanned.ensures.written,
 )
 
 pub returns-in-Ok-None-clause-written : goal.returns-in-Ok-None-clause-written
 returns-in-Ok-None-clause-written c =
     let e : c.member_command_at.result ≡ Ok None = cc in
-    λ text f ms u h d. members_end (c.loop-name.invariant.1 text f ms u h d) (told c.member_command_at.ensures e)
+    λ text f ms u h d. members_end (c.loop-name.invariant.2 text f ms u h d) (told c.member_command_at.ensures e)
 
 pub returns-in-Err-clause-written : goal.returns-in-Err-clause-written
-returns-in-Err-clause-written c = λ text f ms u h e. members_error (c.loop-name.invariant.1 text f ms u h e) (told c.member_command_at.ensures c.in-Err.is)
+returns-in-Err-clause-written c = λ text f ms u h e. members_error (c.loop-name.invariant.2 text f ms u h e) (told c.member_command_at.ensures c.in-Err.is)

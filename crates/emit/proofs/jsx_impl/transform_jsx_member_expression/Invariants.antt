@@ -12,6 +12,7 @@ use Rattle.emit.proofs.jsx_impl.transform_jsx_member_expression.Given as goal
 abbrev pub invariant-loop-name : goal.invariant-loop-name
 invariant-loop-name l =
     Lent l.initial.pen l.pen
+    × (l.pen.notices.now ≡ l.initial.pen.notices.now)
     × ((text : List ℕ) (f : ℕ) (ms : List Span) (u : ℕ) → length l.tape < f → members_at f text l.tape ≡ done ms u
     → MembersLeft text ms l.rest l.initial.pen l.pen)
 

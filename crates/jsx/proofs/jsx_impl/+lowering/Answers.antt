@@ -19,11 +19,11 @@ use Rattle.jsx.proofs.jsx_impl.+lowering.Goals as goal
 
 pub argument-returns-in-Some-clause-written : goal.argument-returns-in-Some-clause-written
 argument-returns-in-Some-clause-written t c =
-    λ d f a u h e q. sole_argument _ a u _ _ (c.lone_spread.ensures.sole_at f d a u h e) _ c.in-Some.is c.put_over.ensures
+    λ d f a u h e q. sole_argument _ a u _ _ (c.lone_spread.ensures.sole_at _ f d a u h e) _ c.in-Some.is c.put_over.ensures.written
 
 pub argument-returns-in-None-clause-written : goal.argument-returns-in-None-clause-written
 argument-returns-in-None-clause-written t c =
-    λ d f a u h e q. object_argument _ a u _ _ (c.lone_spread.ensures.sole_at f d a u h e) c.in-None.is (c.or_null.ensures.written d f a u h e q)
+    λ d f a u h e q. object_argument _ a u _ _ (c.lone_spread.ensures.sole_at _ f d a u h e) c.in-None.is (c.or_null.ensures.written d f a u h e q)
 
 pub attribute-slice_bounds-value-count : goal.attribute-slice_bounds-value-count
 attribute-slice_bounds-value-count t c = attribute_fits c.args.tape.now (arm c.attribute_command_at.ensures c.in-Ok-Plain.is c.in-Ok-Plain.field-0-is)
@@ -36,14 +36,14 @@ attribute-plain-requires t c = (omega arith, attribute_fits c.args.tape.now (arm
 
 pub attribute-returns-then-not-is_valued_key-clause-step : goal.attribute-returns-then-not-is_valued_key-clause-step
 attribute-returns-then-not-is_valued_key-clause-step t c =
-    plain_property _ _ c.args.tape.now _ (arm c.attribute_command_at.ensures c.in-Ok-Plain.is c.in-Ok-Plain.field-0-is) _ c.is_valued_key.ensures _ c.if-not-is_valued_key.true c.plain.ensures.property c.plain.ensures.written
+    plain_property _ _ c.args.tape.now _ (arm c.attribute_command_at.ensures c.in-Ok-Plain.is c.in-Ok-Plain.field-0-is) _ (c.is_valued_key.ensures c.args.sound.now.context.settings.now c.args.sound.now.context.self_allowed) _ c.if-not-is_valued_key.true c.plain.ensures.property c.plain.ensures.written
 
 pub attribute-plain-requires-in-Classic : goal.attribute-plain-requires-in-Classic
 attribute-plain-requires-in-Classic t c = (omega arith, attribute_fits c.args.tape.now (arm c.attribute_command_at.ensures c.in-Ok-Plain.is c.in-Ok-Plain.field-0-is))
 
 pub attribute-returns-in-Classic-clause-step : goal.attribute-returns-in-Classic-clause-step
 attribute-returns-in-Classic-clause-step t c =
-    plain_key _ _ c.args.tape.now _ (arm c.attribute_command_at.ensures c.in-Ok-Plain.is c.in-Ok-Plain.field-0-is) _ c.is_valued_key.ensures _ c.if-not-is_valued_key.false (ap is_classic_form c.in-Classic.is) c.plain-in-Classic.ensures.property c.plain-in-Classic.ensures.written
+    plain_key _ _ c.args.tape.now _ (arm c.attribute_command_at.ensures c.in-Ok-Plain.is c.in-Ok-Plain.field-0-is) _ (c.is_valued_key.ensures c.args.sound.now.context.settings.now c.args.sound.now.context.self_allowed) _ c.if-not-is_valued_key.false (ap is_classic_form c.in-Classic.is) c.plain-in-Classic.ensures.property c.plain-in-Classic.ensures.written
 
 pub attribute-behind-requires : goal.attribute-behind-requires
 attribute-behind-requires t c = (omega arith, (omega arith, attribute_fits c.args.tape.now (arm c.attribute_command_at.ensures c.in-Ok-Namespaced.is c.in-Ok-Namespaced.field-0-is)))
@@ -59,24 +59,24 @@ attribute-returns-in-Automatic-clause-moves t c =
 pub attribute-returns-in-Automatic-clause-step : goal.attribute-returns-in-Automatic-clause-step
 attribute-returns-in-Automatic-clause-step t c =
     let q = arm c.attribute_command_at.ensures c.in-Ok-Plain.is c.in-Ok-Plain.field-0-is in
-    rw c.passed.ensures (plain_passed _ _ c.args.tape.now _ q _ c.is_valued_key.ensures c.if-not-is_valued_key.false (ap is_classic_form c.in-Automatic.is)
+    rw c.passed.ensures (plain_passed _ _ c.args.tape.now _ q _ (c.is_valued_key.ensures c.args.sound.now.context.settings.now c.args.sound.now.context.self_allowed) (record { calls = omega arith; notices = omega arith }) c.if-not-is_valued_key.false (ap is_classic_form c.in-Automatic.is)
     (attribute_fits c.args.tape.now q) c.skip_value.ensures.read)
 
 pub attribute-returns-in-Ok-Namespaced-clause-step : goal.attribute-returns-in-Ok-Namespaced-clause-step
 attribute-returns-in-Ok-Namespaced-clause-step t c =
-    namespaced_step _ _ c.args.tape.now _ _ (arm c.attribute_command_at.ensures c.in-Ok-Namespaced.is c.in-Ok-Namespaced.field-0-is) c.put_bare.ensures
-    c.put_namespaced.ensures _ c.behind.ensures.property c.behind.ensures.written
+    namespaced_step _ _ c.args.tape.now _ _ (arm c.attribute_command_at.ensures c.in-Ok-Namespaced.is c.in-Ok-Namespaced.field-0-is) c.put_bare.ensures.written
+    c.put_namespaced.ensures.written _ c.behind.ensures.property c.behind.ensures.written
 
 pub attribute-returns-in-Ok-Spread-clause-moves : goal.attribute-returns-in-Ok-Spread-clause-moves
 attribute-returns-in-Ok-Spread-clause-moves t c = (attribute_fits c.args.tape.now (arm c.attribute_command_at.ensures c.in-Ok-Spread.is c.in-Ok-Spread.field-0-is), omega arith, tt)
 
 pub attribute-returns-in-Ok-Spread-clause-step : goal.attribute-returns-in-Ok-Spread-clause-step
 attribute-returns-in-Ok-Spread-clause-step t c =
-    spread_step _ _ c.args.tape.now _ (arm c.attribute_command_at.ensures c.in-Ok-Spread.is c.in-Ok-Spread.field-0-is) c.put_over.ensures
+    spread_step _ _ c.args.tape.now _ (arm c.attribute_command_at.ensures c.in-Ok-Spread.is c.in-Ok-Spread.field-0-is) c.put_over.ensures.written
 
 pub attribute-returns-in-Ok-Literal-clause-step : goal.attribute-returns-in-Ok-Literal-clause-step
 attribute-returns-in-Ok-Literal-clause-step t c =
-    literal_step _ _ c.args.tape.now _ (arm c.attribute_command_at.ensures c.in-Ok-Literal.is c.in-Ok-Literal.field-0-is) _ c.literal_attribute.ensures.moves.0 c.literal_attribute.ensures.literal_written
+    literal_step _ _ c.args.tape.now _ (arm c.attribute_command_at.ensures c.in-Ok-Literal.is c.in-Ok-Literal.field-0-is) _ c.literal_attribute.ensures.moves.0 (c.literal_attribute.ensures.literal_written _ _)
 
 pub attribute-returns-in-Ok-End-clause-moves : goal.attribute-returns-in-Ok-End-clause-moves
 attribute-returns-in-Ok-End-clause-moves t c = rw c.passed-in-Ok-End.ensures (omega arith, c.requires.some, tt)
@@ -93,7 +93,7 @@ attribute-returns-in-Err-clause-step t c =
     λ f d a u h e. absurd (attributes_error _ c.args.tape.now d f (told c.attribute_command_at.ensures c.in-Err.is) e)
 
 pub attrs-loop-rest-init : goal.attrs-loop-rest-init
-attrs-loop-rest-init t c = (lent_none, omega arith, tt, left_begin _ _ c.args.tape.now _)
+attrs-loop-rest-init t c = (lent_none, omega arith, tt, left_begin _ _ c.args.tape.now (record { calls = omega arith; notices = omega arith }))
 
 pub attrs-returns-then-starts_with-clause-within : goal.attrs-returns-then-starts_with-clause-within
 attrs-returns-then-starts_with-clause-within t c = (
@@ -125,29 +125,29 @@ attrs-returns-then-is_empty-clause-written t c =
 
 pub automatic-returns-clause-written : goal.automatic-returns-clause-written
 automatic-returns-clause-written t c =
-    λ d f n a v k w P q. automatic_element_written _ _ _ _ P c.put_byte.ensures
-    c.put_bare.ensures c.attrs-props.ensures.written c.inner-items.ensures.written c.key_of.ensures.written
-    c.static_children.ensures (c.source_output.ensures.written q.line q.column) c.self_output.ensures
-    c.put_bare-2.ensures c.transform_element_name.ensures.written c.automatic_name.ensures c.closing.ensures
+    λ d f n a v k w P q. automatic_element_written _ _ _ _ P c.put_byte.ensures.written
+    c.put_bare.ensures.written c.attrs-props.ensures.written c.inner-items.ensures.written c.key_of.ensures.written
+    (c.static_children.ensures.written _ _) (c.source_output.ensures.written _ _ q.line q.column) (c.self_output.ensures.written _)
+    c.put_bare-2.ensures.written (c.transform_element_name.ensures.written _ _) (c.automatic_name.ensures _ _) c.closing.ensures.written
 
 pub bare-returns-clause-written : goal.bare-returns-clause-written
 bare-returns-clause-written t c =
-    λ f d k u h e. bare_classic_call _ k c.put_byte.ensures
-    c.put_bare.ensures (c.children-items.ensures.written f d k u h e) c.put_bare-2.ensures
-    c.get_fragment.ensures c.closing.ensures
+    λ f d k u h e. bare_classic_call _ k c.put_byte.ensures.written
+    c.put_bare.ensures.written (c.children-items.ensures.written f d k u h e) c.put_bare-2.ensures.written
+    c.get_fragment.ensures.written c.closing.ensures.written
 
 pub bare_auto-returns-clause-written : goal.bare_auto-returns-clause-written
 bare_auto-returns-clause-written t c =
-    λ f d k u h e. bare_automatic_call _ k c.put_byte.ensures
-    c.put_bare.ensures (c.inner-items.ensures.written f d k u h e) c.no_key.ensures
-    c.static_children.ensures c.put_bare-2.ensures c.get_fragment.ensures c.automatic_name.ensures c.closing.ensures
+    λ f d k u h e. bare_automatic_call _ k c.put_byte.ensures.written
+    c.put_bare.ensures.written (c.inner-items.ensures.written f d k u h e) (c.no_key.ensures.written _ _)
+    (c.static_children.ensures.written _ _) c.put_bare-2.ensures.written c.get_fragment.ensures.written (c.automatic_name.ensures _ _) c.closing.ensures.written
 
 pub behind-returns-clause-written : goal.behind-returns-clause-written
 behind-returns-clause-written t c =
     value_behind_written _ c.args.tape.now c.args.n c.requires.0 c.requires.1 c.transform_jsx_attribute_value.ensures.written
 
 pub children-loop-rest-init : goal.children-loop-rest-init
-children-loop-rest-init t c = kids_start _ _ _
+children-loop-rest-init t c = kids_start _ _ (record { calls = omega arith; notices = omega arith })
 
 pub children-returns-then-starts_with-clause-within : goal.children-returns-then-starts_with-clause-within
 children-returns-then-starts_with-clause-within t c = (
@@ -170,9 +170,9 @@ children-returns-then-is_empty-clause-written t c =
 
 pub create-returns-clause-written : goal.create-returns-clause-written
 create-returns-clause-written t c =
-    λ d f n a v k w P q. classic_element_written _ _ _ _ P q c.put_byte.ensures
-    c.argument.ensures.written c.children-items.ensures.written c.put_bare.ensures
-    c.transform_element_name.ensures.written c.closing.ensures
+    λ d f n a v k w P q. classic_element_written _ _ _ _ P q c.put_byte.ensures.written
+    c.argument.ensures.written c.children-items.ensures.written c.put_bare.ensures.written
+    (c.transform_element_name.ensures.written _ _) c.closing.ensures.written
 
 pub fragment-returns-then-is_classic-clause-written : goal.fragment-returns-then-is_classic-clause-written
 fragment-returns-then-is_classic-clause-written t c =
@@ -184,48 +184,48 @@ fragment-returns-clause-written t c =
 
 pub inner-returns-then-items-eq0-clause-written : goal.inner-returns-then-items-eq0-clause-written
 inner-returns-then-items-eq0-clause-written t c =
-    λ f d k u h e. object_bare (context_of c.args.context.now) c.put_bare.ensures c.children-items.result
-    (c.children-items.ensures.written f d k u h e) c.if-items-eq0.true c.put_bare-then-items-eq0.ensures
+    λ f d k u h e. object_bare (context_of c.args.sound.now.context) c.put_bare.ensures.written c.children-items.result
+    (c.children-items.ensures.written f d k u h e) c.if-items-eq0.true c.put_bare-then-items-eq0.ensures.written
 
 pub inner-returns-clause-written : goal.inner-returns-clause-written
 inner-returns-clause-written t c =
-    λ f d k u h e. object_full (context_of c.args.context.now) c.put_bare.ensures c.children-items.result
-    (c.children-items.ensures.written f d k u h e) _ c.if-items-eq0.false c.children_form.ensures c.put_byte.ensures
-    c.put_bare-2.ensures
+    λ f d k u h e. object_full (context_of c.args.sound.now.context) c.put_bare.ensures.written c.children-items.result
+    (c.children-items.ensures.written f d k u h e) _ c.if-items-eq0.false c.children_form.ensures c.put_byte.ensures.written
+    c.put_bare-2.ensures.written
 
 pub key_of-returns-in-Some-clause-written : goal.key_of-returns-in-Some-clause-written
 key_of-returns-in-Some-clause-written t c =
-    key_some c.in-Some.place c.args.key c.in-Some.is (rw c.in-Some.is at c.requires) c.put_bare.ensures
+    key_some c.in-Some.place c.args.key c.in-Some.is (rw c.in-Some.is at c.requires) c.put_bare.ensures.written
     c.transform_jsx_attribute_value.ensures.written
 
 pub key_of-returns-in-None-clause-written : goal.key_of-returns-in-None-clause-written
-key_of-returns-in-None-clause-written t c = key_none c.args.key c.in-None.is c.no_key.ensures
+key_of-returns-in-None-clause-written t c = key_none c.args.key c.in-None.is (c.no_key.ensures.written _ _)
 
 pub or_null-returns-then-has_more-clause-written : goal.or_null-returns-then-has_more-clause-written
 or_null-returns-then-has_more-clause-written t c =
-    λ d f a u h e q. some_object _ _ a c.put_bare.ensures
-    (c.attrs-props.ensures.written f d a u h e) c.self_output.ensures (c.source_output.ensures.written q.line q.column)
-    (λ os i. c.has_more.ensures _ os i) c.if-has_more.true c.put_bare-then-has_more.ensures
+    λ d f a u h e q. some_object _ _ a c.put_bare.ensures.written
+    (c.attrs-props.ensures.written f d a u h e) (c.self_output.ensures.written _) (c.source_output.ensures.written _ _ q.line q.column)
+    (λ os i. c.has_more.ensures _ _ os i) c.if-has_more.true c.put_bare-then-has_more.ensures.written
 
 pub or_null-returns-clause-written : goal.or_null-returns-clause-written
 or_null-returns-clause-written t c =
-    λ d f a u h e q. no_object _ _ a c.put_bare.ensures
-    (c.attrs-props.ensures.written f d a u h e) c.self_output.ensures (c.source_output.ensures.written q.line q.column)
-    (λ os i. c.has_more.ensures _ os i) c.if-has_more.false c.put_bare-2.ensures
+    λ d f a u h e q. no_object _ _ a c.put_bare.ensures.written
+    (c.attrs-props.ensures.written f d a u h e) (c.self_output.ensures.written _) (c.source_output.ensures.written _ _ q.line q.column)
+    (λ os i. c.has_more.ensures _ _ os i) c.if-has_more.false c.put_bare-2.ensures.written
 
 pub plain-returns-clause-written : goal.plain-returns-clause-written
 plain-returns-clause-written t c =
-    plain_written _ c.args.tape.now _ c.key_notice.ensures.notice c.get_attribute_name.ensures
+    plain_written _ c.args.tape.now _ (c.key_notice.ensures.notice _ _) (c.get_attribute_name.ensures.written _ _)
     c.behind.ensures.written
 
 pub transform_jsx-returns-then-is_classic_element-clause-written : goal.transform_jsx-returns-then-is_classic_element-clause-written
 transform_jsx-returns-then-is_classic_element-clause-written t c =
-    λ f d n u h e q. element_lowered_classic _ _ _ _ f d n u h e c.skip_name-at.ensures.read c.is_classic_element.ensures
+    λ f d n u h e q. element_lowered_classic _ _ _ _ f d n u h e c.skip_name-at.ensures.read (c.is_classic_element.ensures _)
     c.if-is_classic_element.true q c.create.ensures.written
 
 pub transform_jsx-returns-clause-written : goal.transform_jsx-returns-clause-written
 transform_jsx-returns-clause-written t c =
-    λ f d n u h e q. element_lowered_automatic _ _ _ _ f d n u h e c.skip_name-at.ensures.read c.is_classic_element.ensures
+    λ f d n u h e q. element_lowered_automatic _ _ _ _ f d n u h e c.skip_name-at.ensures.read (c.is_classic_element.ensures _)
     c.if-is_classic_element.false q c.automatic.ensures.written
 
 pub transform_jsx_attribute_value-slice_bounds-inside-count : goal.transform_jsx_attribute_value-slice_bounds-inside-count
@@ -251,28 +251,28 @@ transform_jsx_attribute_value-returns-in-Ok-Absent-clause-used_in_bounds t c = v
 
 pub transform_jsx_attribute_value-returns-in-Ok-Absent-clause-written : goal.transform_jsx_attribute_value-returns-in-Ok-Absent-clause-written
 transform_jsx_attribute_value-returns-in-Ok-Absent-clause-written t c =
-    λ f d v u h e. absent_written (context_of c.args.context.now) _ _ f d v u e (arm c.value_command_at.ensures c.in-Ok-Absent.is c.in-Ok-Absent.field-0-is) c.put_bare.ensures
+    λ f d v u h e. absent_written (context_of c.args.sound.now.context) _ _ f d v u e (arm c.value_command_at.ensures c.in-Ok-Absent.is c.in-Ok-Absent.field-0-is) c.put_bare.ensures.written
 
 pub transform_jsx_attribute_value-returns-in-Ok-Empty-clause-used_in_bounds : goal.transform_jsx_attribute_value-returns-in-Ok-Empty-clause-used_in_bounds
 transform_jsx_attribute_value-returns-in-Ok-Empty-clause-used_in_bounds t c = value_fits c.args.tape.now (arm c.value_command_at.ensures c.in-Ok-Empty.is c.in-Ok-Empty.field-0-is)
 
 pub transform_jsx_attribute_value-returns-in-Ok-Empty-clause-written : goal.transform_jsx_attribute_value-returns-in-Ok-Empty-clause-written
 transform_jsx_attribute_value-returns-in-Ok-Empty-clause-written t c =
-    λ f d v u h e. empty_written (context_of c.args.context.now) _ _ f d v u e (arm c.value_command_at.ensures c.in-Ok-Empty.is c.in-Ok-Empty.field-0-is) c.put_bare-in-Ok-Empty.ensures
+    λ f d v u h e. empty_written (context_of c.args.sound.now.context) _ _ f d v u e (arm c.value_command_at.ensures c.in-Ok-Empty.is c.in-Ok-Empty.field-0-is) c.put_bare-in-Ok-Empty.ensures.written
 
 pub transform_jsx_attribute_value-returns-in-Ok-Text-clause-used_in_bounds : goal.transform_jsx_attribute_value-returns-in-Ok-Text-clause-used_in_bounds
 transform_jsx_attribute_value-returns-in-Ok-Text-clause-used_in_bounds t c = value_fits c.args.tape.now (arm c.value_command_at.ensures c.in-Ok-Text.is c.in-Ok-Text.field-0-is)
 
 pub transform_jsx_attribute_value-returns-in-Ok-Text-clause-written : goal.transform_jsx_attribute_value-returns-in-Ok-Text-clause-written
 transform_jsx_attribute_value-returns-in-Ok-Text-clause-written t c =
-    λ f d v u h e. text_written (context_of c.args.context.now) _ _ f d v u e _ (arm c.value_command_at.ensures c.in-Ok-Text.is c.in-Ok-Text.field-0-is) c.put_string.ensures
+    λ f d v u h e. text_written (context_of c.args.sound.now.context) _ _ f d v u e _ (arm c.value_command_at.ensures c.in-Ok-Text.is c.in-Ok-Text.field-0-is) c.put_string.ensures.written
 
 pub transform_jsx_attribute_value-returns-in-Ok-Expression-clause-used_in_bounds : goal.transform_jsx_attribute_value-returns-in-Ok-Expression-clause-used_in_bounds
 transform_jsx_attribute_value-returns-in-Ok-Expression-clause-used_in_bounds t c = value_fits c.args.tape.now (arm c.value_command_at.ensures c.in-Ok-Expression.is c.in-Ok-Expression.field-0-is)
 
 pub transform_jsx_attribute_value-returns-in-Ok-Expression-clause-written : goal.transform_jsx_attribute_value-returns-in-Ok-Expression-clause-written
 transform_jsx_attribute_value-returns-in-Ok-Expression-clause-written t c =
-    λ f d v u h e. expression_written (context_of c.args.context.now) _ _ f d v u e _ (arm c.value_command_at.ensures c.in-Ok-Expression.is c.in-Ok-Expression.field-0-is) c.put_over.ensures
+    λ f d v u h e. expression_written (context_of c.args.sound.now.context) _ _ f d v u e _ (arm c.value_command_at.ensures c.in-Ok-Expression.is c.in-Ok-Expression.field-0-is) c.put_over.ensures.written
 
 pub transform_jsx_attribute_value-returns-in-Ok-Element-clause-used_in_bounds : goal.transform_jsx_attribute_value-returns-in-Ok-Element-clause-used_in_bounds
 transform_jsx_attribute_value-returns-in-Ok-Element-clause-used_in_bounds t c =
@@ -281,7 +281,7 @@ transform_jsx_attribute_value-returns-in-Ok-Element-clause-used_in_bounds t c =
 pub transform_jsx_attribute_value-returns-in-Ok-Element-clause-written : goal.transform_jsx_attribute_value-returns-in-Ok-Element-clause-written
 transform_jsx_attribute_value-returns-in-Ok-Element-clause-written t c =
     let q = arm c.value_command_at.ensures c.in-Ok-Element.is c.in-Ok-Element.field-0-is in
-    value_element_written (context_of c.args.context.now) c.args.tape.now _ (tail_part c.args.tape.now 9) (value_fits c.args.tape.now q) c.in-Ok-Element.place q (search rules)
+    value_element_written (context_of c.args.sound.now.context) c.args.tape.now _ (tail_part c.args.tape.now 9) (value_fits c.args.tape.now q) c.in-Ok-Element.place q (search rules)
     (search rules) c.transform_jsx.ensures.written
 
 pub transform_jsx_attribute_value-returns-in-Ok-Fragment-clause-used_in_bounds : goal.transform_jsx_attribute_value-returns-in-Ok-Fragment-clause-used_in_bounds
@@ -291,11 +291,11 @@ transform_jsx_attribute_value-returns-in-Ok-Fragment-clause-used_in_bounds t c =
 pub transform_jsx_attribute_value-returns-in-Ok-Fragment-clause-written : goal.transform_jsx_attribute_value-returns-in-Ok-Fragment-clause-written
 transform_jsx_attribute_value-returns-in-Ok-Fragment-clause-written t c =
     let q = arm c.value_command_at.ensures c.in-Ok-Fragment.is c.in-Ok-Fragment.field-0-is in
-    value_fragment_written (context_of c.args.context.now) c.args.tape.now _ (tail_part c.args.tape.now 9) (value_fits c.args.tape.now q) _ q c.fragment.ensures.written
+    value_fragment_written (context_of c.args.sound.now.context) c.args.tape.now _ (tail_part c.args.tape.now 9) (value_fits c.args.tape.now q) _ q c.fragment.ensures.written
 
 pub transform_jsx_attribute_value-returns-in-Err-clause-written : goal.transform_jsx_attribute_value-returns-in-Err-clause-written
 transform_jsx_attribute_value-returns-in-Err-clause-written t c =
-    λ f d v u h e. absurd (value_error c.args.context.now.text.now c.args.tape.now d f (told c.value_command_at.ensures c.in-Err.is) e)
+    λ f d v u h e. absurd (value_error c.args.sound.now.context.text.now c.args.tape.now d f (told c.value_command_at.ensures c.in-Err.is) e)
 
 pub transform_jsx_child-slice_bounds-inside-count : goal.transform_jsx_child-slice_bounds-inside-count
 transform_jsx_child-slice_bounds-inside-count t c = child_fits c.args.tape.now (arm c.child_command_at.ensures c.in-Ok-Element.is c.in-Ok-Element.field-0-is)
@@ -322,7 +322,7 @@ transform_jsx_child-returns-in-Ok-Text-clause-moves t c =
 
 pub transform_jsx_child-returns-in-Ok-Text-clause-step : goal.transform_jsx_child-returns-in-Ok-Text-clause-step
 transform_jsx_child-returns-in-Ok-Text-clause-step t c =
-    λ f d k u h e. child_text (context_of c.args.context.now) c.args.tape.now _ _ (arm c.child_command_at.ensures c.in-Ok-Text.is c.in-Ok-Text.field-0-is) c.transform_jsx_text.ensures.text
+    λ f d k u h e. child_text (context_of c.args.sound.now.context) c.args.tape.now _ _ (arm c.child_command_at.ensures c.in-Ok-Text.is c.in-Ok-Text.field-0-is) c.transform_jsx_text.ensures.text
     c.transform_jsx_text.ensures.text_written f d k u e
 
 pub transform_jsx_child-returns-in-Ok-Expression-clause-moves : goal.transform_jsx_child-returns-in-Ok-Expression-clause-moves
@@ -330,21 +330,21 @@ transform_jsx_child-returns-in-Ok-Expression-clause-moves t c = (child_fits c.ar
 
 pub transform_jsx_child-returns-in-Ok-Expression-clause-step : goal.transform_jsx_child-returns-in-Ok-Expression-clause-step
 transform_jsx_child-returns-in-Ok-Expression-clause-step t c =
-    λ f d k u h e. child_expression (context_of c.args.context.now) c.args.tape.now _ (arm c.child_command_at.ensures c.in-Ok-Expression.is c.in-Ok-Expression.field-0-is) c.put_over.ensures f d k u e
+    λ f d k u h e. child_expression (context_of c.args.sound.now.context) c.args.tape.now _ (arm c.child_command_at.ensures c.in-Ok-Expression.is c.in-Ok-Expression.field-0-is) c.put_over.ensures.written f d k u e
 
 pub transform_jsx_child-returns-in-Ok-Empty-clause-moves : goal.transform_jsx_child-returns-in-Ok-Empty-clause-moves
 transform_jsx_child-returns-in-Ok-Empty-clause-moves t c = rw c.unread.ensures (child_fits c.args.tape.now (arm c.child_command_at.ensures c.in-Ok-Empty.is c.in-Ok-Empty.field-0-is), omega arith, omega arith)
 
 pub transform_jsx_child-returns-in-Ok-Empty-clause-step : goal.transform_jsx_child-returns-in-Ok-Empty-clause-step
 transform_jsx_child-returns-in-Ok-Empty-clause-step t c =
-    λ f d k u h e. rw c.unread.ensures (child_empty (context_of c.args.context.now) c.args.tape.now _ (arm c.child_command_at.ensures c.in-Ok-Empty.is c.in-Ok-Empty.field-0-is) f d k u e)
+    λ f d k u h e. rw c.unread.ensures (child_empty (context_of c.args.sound.now.context) c.args.tape.now _ (record { calls = omega arith; notices = omega arith }) (arm c.child_command_at.ensures c.in-Ok-Empty.is c.in-Ok-Empty.field-0-is) f d k u e)
 
 pub transform_jsx_child-returns-in-Ok-Spread-clause-moves : goal.transform_jsx_child-returns-in-Ok-Spread-clause-moves
 transform_jsx_child-returns-in-Ok-Spread-clause-moves t c = (child_fits c.args.tape.now (arm c.child_command_at.ensures c.in-Ok-Spread.is c.in-Ok-Spread.field-0-is), omega arith, omega arith)
 
 pub transform_jsx_child-returns-in-Ok-Spread-clause-step : goal.transform_jsx_child-returns-in-Ok-Spread-clause-step
 transform_jsx_child-returns-in-Ok-Spread-clause-step t c =
-    λ f d k u h e. child_spread (context_of c.args.context.now) c.args.tape.now _ (arm c.child_command_at.ensures c.in-Ok-Spread.is c.in-Ok-Spread.field-0-is) c.put_over-in-Ok-Spread.ensures f d k u e
+    λ f d k u h e. child_spread (context_of c.args.sound.now.context) c.args.tape.now _ (arm c.child_command_at.ensures c.in-Ok-Spread.is c.in-Ok-Spread.field-0-is) c.put_over-in-Ok-Spread.ensures.written f d k u e
 
 pub transform_jsx_child-returns-in-Ok-Element-clause-moves : goal.transform_jsx_child-returns-in-Ok-Element-clause-moves
 transform_jsx_child-returns-in-Ok-Element-clause-moves t c = (
@@ -356,7 +356,7 @@ transform_jsx_child-returns-in-Ok-Element-clause-moves t c = (
 pub transform_jsx_child-returns-in-Ok-Element-clause-step : goal.transform_jsx_child-returns-in-Ok-Element-clause-step
 transform_jsx_child-returns-in-Ok-Element-clause-step t c =
     let q = arm c.child_command_at.ensures c.in-Ok-Element.is c.in-Ok-Element.field-0-is in
-    child_element (context_of c.args.context.now) c.args.tape.now _ (tail_part c.args.tape.now 9) (child_fits c.args.tape.now q) c.in-Ok-Element.place q (search rules)
+    child_element (context_of c.args.sound.now.context) c.args.tape.now _ (tail_part c.args.tape.now 9) (child_fits c.args.tape.now q) c.in-Ok-Element.place q (search rules)
     (search rules) c.transform_jsx.ensures.written
 
 pub transform_jsx_child-returns-in-Ok-Fragment-clause-moves : goal.transform_jsx_child-returns-in-Ok-Fragment-clause-moves
@@ -369,7 +369,7 @@ transform_jsx_child-returns-in-Ok-Fragment-clause-moves t c = (
 pub transform_jsx_child-returns-in-Ok-Fragment-clause-step : goal.transform_jsx_child-returns-in-Ok-Fragment-clause-step
 transform_jsx_child-returns-in-Ok-Fragment-clause-step t c =
     let q = arm c.child_command_at.ensures c.in-Ok-Fragment.is c.in-Ok-Fragment.field-0-is in
-    child_fragment (context_of c.args.context.now) c.args.tape.now _ (tail_part c.args.tape.now 9) (child_fits c.args.tape.now q) _ q c.fragment.ensures.written
+    child_fragment (context_of c.args.sound.now.context) c.args.tape.now _ (tail_part c.args.tape.now 9) (child_fits c.args.tape.now q) _ q c.fragment.ensures.written
 
 pub transform_jsx_child-returns-in-Ok-End-clause-step : goal.transform_jsx_child-returns-in-Ok-End-clause-step
 transform_jsx_child-returns-in-Ok-End-clause-step t c =
@@ -377,4 +377,4 @@ transform_jsx_child-returns-in-Ok-End-clause-step t c =
 
 pub transform_jsx_child-returns-in-Err-clause-step : goal.transform_jsx_child-returns-in-Err-clause-step
 transform_jsx_child-returns-in-Err-clause-step t c =
-    λ f d k u h e. absurd (children_error c.args.context.now.text.now c.args.tape.now d f (told c.child_command_at.ensures c.in-Err.is) e)
+    λ f d k u h e. absurd (children_error c.args.sound.now.context.text.now c.args.tape.now d f (told c.child_command_at.ensures c.in-Err.is) e)

@@ -67,15 +67,15 @@ invariant-attrs-loop-rest l =
     Lent l.initial.pen l.pen
     × (l.i ≤ length l.tape)
     × KeyWithin (length l.tape) l.key
-    × ((f d : ℕ) (a : Attributes) (u : ℕ) → length l.tape < f → attributes_at f l.context.text.now d l.tape ≡ done a u
-    → AttributesLeft (context_of l.context) (is_classic_form l.form) d l.tape a u l.initial.pen l.pen l.i l.some l.key)
+    × ((f d : ℕ) (a : Attributes) (u : ℕ) → length l.tape < f → attributes_at f l.sound.context.text.now d l.tape ≡ done a u
+    → AttributesLeft (context_of l.sound.context) (is_classic_form l.form) d l.tape a u l.initial.pen l.pen l.i l.some l.key)
 
 abbrev pub decreases-attrs-loop-rest : goal.decreases-attrs-loop-rest
 decreases-attrs-loop-rest l =
     length l.tape - l.i
 
 abbrev pub invariant-children-loop-rest : goal.invariant-children-loop-rest
-invariant-children-loop-rest l = KidsLeft (context_of l.context) l.tape l.rest l.initial.pen l.pen l.count l.spread
+invariant-children-loop-rest l = KidsLeft (context_of l.sound.context) l.tape l.rest l.initial.pen l.pen l.count l.spread
 
 abbrev pub decreases-children-loop-rest : goal.decreases-children-loop-rest
 decreases-children-loop-rest l = length l.rest

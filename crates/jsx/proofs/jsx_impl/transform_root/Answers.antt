@@ -22,10 +22,10 @@ slice_bounds-fragment-start c = omega (arith, scope_fits true c.args.tape.now (a
 pub returns-in-Ok-Element-clause-written : goal.returns-in-Ok-Element-clause-written
 returns-in-Ok-Element-clause-written c =
     let q = arm c.scope_command_at.ensures c.in-Ok-Element.is c.in-Ok-Element.field-0-is in
-    root_element (context_of c.args.context.now) c.args.tape.now _ (tail_part c.args.tape.now 9) (scope_fits true c.args.tape.now q) c.in-Ok-Element.place q (search rules)
+    root_element (context_of c.args.sound.now.context) c.args.tape.now _ (tail_part c.args.tape.now 9) (scope_fits true c.args.tape.now q) c.in-Ok-Element.place q (search rules)
     (search rules) c.transform_jsx.ensures.written
 
 pub returns-in-Ok-Fragment-clause-written : goal.returns-in-Ok-Fragment-clause-written
 returns-in-Ok-Fragment-clause-written c =
     let q = arm c.scope_command_at.ensures c.in-Ok-Fragment.is c.in-Ok-Fragment.field-0-is in
-    root_fragment (context_of c.args.context.now) c.args.tape.now _ (tail_part c.args.tape.now 9) (scope_fits true c.args.tape.now q) _ q c.fragment.ensures.written
+    root_fragment (context_of c.args.sound.now.context) c.args.tape.now _ (tail_part c.args.tape.now 9) (scope_fits true c.args.tape.now q) _ q c.fragment.ensures.written

@@ -26,8 +26,7 @@ literal c = told c.attribute_command_at.ensures (c.in-Ok.is ∙ ap Ok c.in-Liter
 pub returns-then-is_late_key-clause-front_is : goal.returns-then-is_late_key-clause-front_is
 returns-then-is_late_key-clause-front_is c =
     let q = plain (goal.at.returns-then-is_late_key-clause-front_is c).In-Plain in
-    let b = both _ _ (told c.is_late_key.ensures c.if-is_late_key.true) in
-    λ f d a u h i. front_key _ _ c.args.tape.now _ f d a u i _ q b.0 b.1
+    λ s b f d a u h i. let w = both _ _ (told (c.is_late_key.ensures s b) c.if-is_late_key.true) in front_key _ _ c.args.tape.now _ f d a u i _ q w.0 w.1
 
 pub slice_bounds-value-count : goal.slice_bounds-value-count
 slice_bounds-value-count c = attribute_fits c.args.tape.now (plain (goal.at.slice_bounds-value-count c).In-Plain)
@@ -56,8 +55,8 @@ returns-else-is_late_key-clause-front_within c =
 pub returns-else-is_late_key-clause-front_is : goal.returns-else-is_late_key-clause-front_is
 returns-else-is_late_key-clause-front_is c =
     let q = plain (goal.at.returns-else-is_late_key-clause-front_is c).In-Plain in
-    λ f d a u h i.
-    front_plain _ _ c.args.tape.now _ f d a u i _ q h (attribute_fits c.args.tape.now q) (told c.is_late_key.ensures c.if-is_late_key.false) _
+    λ s b f d a u h i.
+    front_plain _ _ c.args.tape.now _ f d a u i _ q h (attribute_fits c.args.tape.now q) (told (c.is_late_key.ensures s b) c.if-is_late_key.false) _
     (λ g v w j l. c.skip_value.ensures.read g _ d v w j l)
 
 pub returns-in-Namespaced-clause-front_within : goal.returns-in-Namespaced-clause-front_within
@@ -68,7 +67,7 @@ returns-in-Namespaced-clause-front_within c =
 pub returns-in-Namespaced-clause-front_is : goal.returns-in-Namespaced-clause-front_is
 returns-in-Namespaced-clause-front_is c =
     let q = namespaced (goal.at.returns-in-Namespaced-clause-front_is c).In-Namespaced in
-    λ f d a u h i.
+    λ s b f d a u h i.
     front_namespaced _ _ c.args.tape.now _ f d a u i _ _ q h (attribute_fits c.args.tape.now q) _
     (λ g v w j l. c.skip_value-in-Namespaced.ensures.read g _ d v w j l)
 
@@ -78,7 +77,7 @@ returns-in-Spread-clause-front_within c =
 
 pub returns-in-Spread-clause-front_is : goal.returns-in-Spread-clause-front_is
 returns-in-Spread-clause-front_is c =
-    λ f d a u h i. front_spread _ _ c.args.tape.now _ f d a u i _ (spread (goal.at.returns-in-Spread-clause-front_is c).In-Spread)
+    λ s b f d a u h i. front_spread _ _ c.args.tape.now _ f d a u i _ (spread (goal.at.returns-in-Spread-clause-front_is c).In-Spread)
 
 pub returns-in-Literal-clause-front_within : goal.returns-in-Literal-clause-front_within
 returns-in-Literal-clause-front_within c =
@@ -88,12 +87,12 @@ returns-in-Literal-clause-front_within c =
 pub returns-in-Literal-clause-front_is : goal.returns-in-Literal-clause-front_is
 returns-in-Literal-clause-front_is c =
     let q = literal (goal.at.returns-in-Literal-clause-front_is c).In-Literal in
-    λ f d a u h i.
+    λ s b f d a u h i.
     front_literal _ _ c.args.tape.now _ f d a u i _ q h (attribute_fits c.args.tape.now q) _
     (λ g v w j l. c.skip_properties.ensures.read g _ v w j l)
 
 pub returns-in-End-clause-front_is : goal.returns-in-End-clause-front_is
-returns-in-End-clause-front_is c = λ f d a u h i. front_end _ _ c.args.tape.now _ f d a u i (told c.attribute_command_at.ensures (c.in-Ok.is ∙ ap Ok c.in-End.is))
+returns-in-End-clause-front_is c = λ s b f d a u h i. front_end _ _ c.args.tape.now _ f d a u i (told c.attribute_command_at.ensures (c.in-Ok.is ∙ ap Ok c.in-End.is))
 
 pub returns-in_default-clause-front_is : goal.returns-in_default-clause-front_is
-returns-in_default-clause-front_is c = λ f d a u h i. absurd (attributes_error _ c.args.tape.now d f (told c.attribute_command_at.ensures c.in_default.is) i)
+returns-in_default-clause-front_is c = λ s b f d a u h i. absurd (attributes_error _ c.args.tape.now d f (told c.attribute_command_at.ensures c.in_default.is) i)

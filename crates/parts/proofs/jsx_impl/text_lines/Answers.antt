@@ -12,8 +12,8 @@ returns-clause-text_written c =
     let texted = c.fixup_whitespace_and_decode_entities-texted.ensures in
     record {
       counted = c.from.ensures ∙ counts _ ∙ sym texted.survives;
-      wrote = text_produced _ (record { calls = refl; notices = refl }) (λ small. record {
-        wrote = rw (let e : c.min-at.result ≡ c.args.pen.now.call_place = omega (arith, c.min-at.ensures) in e) at texted.wrote;
+      wrote = text_produced _ (record { calls = refl; notices = refl }) (record { calls = omega arith; notices = omega arith }) (λ small. record {
+        wrote = rw (let e : c.min-at.result ≡ c.args.pen.now.at.calls = omega (arith, c.min-at.ensures) in e) at texted.wrote;
         lent = record { calls = refl; notices = refl };
         notices = refl;
         notice_place = refl;

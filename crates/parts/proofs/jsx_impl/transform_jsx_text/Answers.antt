@@ -7,6 +7,6 @@ use Rattle.parts.proofs.jsx_impl.transform_jsx_text.Goals as goal
 pub text_lines-requires : goal.text_lines-requires
 text_lines-requires c =
     elim c.in-Empty.is [
-      | inl e ↦ let it = empty_bounds _ _ (told c.span_bounds.ensures e) in part_well_formed _ _ c.args.context.now.text_formed it.0 it.1
-      | inr e ↦ let it = good_bounds _ _ (told c.span_bounds.ensures e) in part_well_formed _ _ c.args.context.now.text_formed it.0 it.1
+      | inl e ↦ let it = empty_bounds _ _ (told c.span_bounds.ensures e) in part_well_formed _ _ c.args.sound.now.text_formed it.0 it.1
+      | inr e ↦ let it = good_bounds _ _ (told c.span_bounds.ensures e) in part_well_formed _ _ c.args.sound.now.text_formed it.0 it.1
     ]

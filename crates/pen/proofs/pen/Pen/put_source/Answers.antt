@@ -21,7 +21,8 @@ returns-clause-written c = λ h k.
     called_bound FileName (λ n. 0xa1 ∷ n ∷ u32_bytes ((c.args.place.line + 1) % 2 ^ 32) ++ u32_bytes ((c.args.place.column + 1) % 2 ^ 32)) (λ js. refl) (λ js. rw (e, f)) (λ k m. refl)
     (lent_then (numbered_lent FileName c.number_of-number.ensures.after c.put_call.ensures.lent)
     (lent_then c.put_call-2.ensures.lent c.put_call-3.ensures.lent))
-    (λ short.
-    let short' = subst (λ (p : Pen). length p.calls.now ≤ 2 ^ 63) (sym c.number_of-number.ensures.after) short in
+    (record { calls = omega arith; notices = omega arith })
+    (let before : length c.args.self.now.calls.now ≤ 2 ^ 63 = omega arith in
+    let short = subst (λ (p : Pen). length p.calls.now ≤ 2 ^ 63) (sym c.number_of-number.ensures.after) before in
     rw (← c.number_of-number.ensures.number, ← c.number_of-number.ensures.after)
-    (call_then short' (call_then short' c.put_call.ensures c.put_call-2.ensures) c.put_call-3.ensures))
+    (call_then short (call_then short c.put_call.ensures c.put_call-2.ensures) c.put_call-3.ensures))
