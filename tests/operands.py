@@ -19,7 +19,7 @@ def main():
             for number, line in enumerate(file, 1):
                 if line.strip() and not line.strip().startswith(NOT_CODE):
                     lines += 1
-                    if re.search(r" [*/%]=? | & |&=", line):
+                    if re.search(r"[/%]|[\w)\]] ?\*| & |&=", line):
                         found.append(f"{path}:{number}: {line.strip()}")
     if found or not lines:
         raise SystemExit("\n".join(found) or "no code was found")
